@@ -1,0 +1,8 @@
+-- Lemmas by topic, and the proofs of specs/Promises.antt in Theorems.
+pub mod Cases
+pub mod Rows
+pub mod Encoding
+pub mod Reading
+pub mod Storing
+pub mod Writers
+pub mod Theorems
