@@ -4,7 +4,7 @@
 use mathlib.Core.Path.{_≡_, refl}
 use Prim.Native.Nat.{ℕ}
 use mathlib.Core.Option.{none, some}
-use mathlib.Core.List.{List, [], _∷_, _++_}
+use mathlib.Core.List.{[], _∷_, _++_}
 use Rattle.gate_list.specs.Format.{listMark}
 use Rattle.gate_list.specs.Gate.{one, two, S, S†, T†, T, H, CX, gateOf, inverseKind, inverseGate, inverseList}
 use Rattle.gate_list.specs.Row.{Fault, first}

@@ -8,9 +8,9 @@ use native.Mathlib.Omega.{arith}
 use native.Mathlib.Nat.{mod-eq-of-lt}
 use mathlib.Core.Bool.{Bool, true, false, _&&_, _||_, true≢false, and-false, and-eq-true-iff}
 use mathlib.Core.Option.{none}
-use mathlib.Core.List.{List, [], _∷_, _++_, map, append-nil, append-assoc, map-append, reverse-cons, reverse-append}
+use mathlib.Core.List.{List, [], _∷_, _++_, map, append-nil, append-assoc}
 use lib.Seq.{take-add, take-at}
-use lib.ListN.{length, getD, take, length-append, length-map, length-reverse, length-take, length-drop}
+use lib.ListN.{length, getD, take, length-append, length-map, length-take, length-drop}
 use lib.Dec.{ltb, leb, eqb, lit<, lit≤}
 use borrow.Author.Tests.{ltb-false, leb-true, leb-false, eqb-true, eqb-false, not-false, le-ltb, lt-leb, lt-ltb, ne-eqb}
 use Rattle.gate_list.specs.Format.{listMark, headSize, gateSize, mostQubits, mostGates, lastOneQubit, lastKind, noQubit, fromBytes, Bytes}
@@ -20,6 +20,7 @@ use Rattle.gate_list.specs.Reading.{size, count, qubits, body, raws, gat
 use Rattle.gate_list.specs.Writing.{headBytes, encode}
 use Rattle.gate_list.specs.Promises.{NoneHolds}
 use Rattle.gate_list.specs.Inner.{appended, inverseNumber, inverseBytes}
+use Rattle.gate_list.proofs.GateLaws.{inverse-cons, length-inverse}
 use Rattle.gate_list.proofs.Rows.{none-holds, none-left, none-right, first-none}
 
 -- three bytes are a gate
@@ -262,50 +263,6 @@ unfolding inverseBytes gateBytes inverseGate inverseNumber inverseKind oneQubitK
 inverse-gate (one u a) rest =
     elim u [ X ↦ refl | Y ↦ refl | Z ↦ refl | S ↦ refl | S† ↦ refl | T ↦ refl | T† ↦ refl | H ↦ refl ]
 inverse-gate (two v a b) rest = elim v [ CX ↦ refl | CZ ↦ refl | SWAP ↦ refl ]
-
--- a first gate's inverse comes last
-inverse-cons : (g : Gate) (gs : List Gate) → inverseList (g ∷ gs) ≡ inverseList gs ++ inverseGate g ∷ []
-unfolding inverseList
-inverse-cons g gs = reverse-cons (inverseGate g) (map inverseGate gs)
-
--- a last gate's inverse comes first
-inverse-snoc : (gs : List Gate) (g : Gate) → inverseList (gs ++ g ∷ []) ≡ inverseGate g ∷ inverseList gs
-unfolding inverseList
-inverse-snoc gs g = rw (map-append, reverse-append)
-
--- a gate inverted twice
-inverse-gate-twice : (g : Gate) → inverseGate (inverseGate g) ≡ g
-unfolding inverseGate inverseKind
-inverse-gate-twice (one u a) = elim u [ X ↦ refl | Y ↦ refl | Z ↦ refl | S ↦ refl | S† ↦ refl | T ↦ refl | T† ↦ refl | H ↦ refl ]
-inverse-gate-twice (two v a b) = refl
-
--- gates inverted twice
-pub inverse-inverse : (gs : List Gate) → inverseList (inverseList gs) ≡ gs
-inverse-inverse [] = unfold inverseList in refl
-inverse-inverse (g ∷ gs) =
-    rw (inverse-cons g gs, inverse-snoc (inverseList gs) (inverseGate g), inverse-gate-twice g, inverse-inverse gs)
-
--- the inverse has as many gates
-pub length-inverse : (gs : List Gate) → length (inverseList gs) ≡ length gs
-unfolding inverseList
-length-inverse gs = rw (length-reverse, length-map)
-
--- gates within n, then more of them
-pub within-append : (n : ℕ) (gs hs : List Gate) → AllWithin n gs → AllWithin n hs → AllWithin n (gs ++ hs)
-within-append n [] hs left right = right
-within-append n (g ∷ gs) hs (here, left) right = (here, within-append n gs hs left right)
-
--- the inverse of a gate within n is within n
-gate-within-inverse : (n : ℕ) (g : Gate) → Within n g → Within n (inverseGate g)
-unfolding inverseGate
-gate-within-inverse n (one u a) h = h
-gate-within-inverse n (two v a b) h = h
-
--- the inverse of gates within n is within n
-pub within-inverse : (n : ℕ) (gs : List Gate) → AllWithin n gs → AllWithin n (inverseList gs)
-within-inverse n [] h = unfold inverseList in tt
-within-inverse n (g ∷ gs) (here, later) =
-    rw inverse-cons (within-append n (inverseList gs) (inverseGate g ∷ []) (within-inverse n gs later) (gate-within-inverse n g here, tt))
 
 -- the inverse of gates, in bytes
 inverse-body : (gs : List Gate) → bodyBytes (inverseList gs) ≡ inverseBytes (bodyBytes gs)

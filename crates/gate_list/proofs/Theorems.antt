@@ -22,7 +22,8 @@ use Rattle.gate_list.specs.declared.Report.{Report}
 use Rattle.gate_list.specs.declared.Refusal.{Refusal}
 use Rattle.gate_list.specs.declared.Refusal.the-variants.{Short, WrongMark, QubitCount, GateCount, UnknownKind, QubitRange, SpareByte, BufferShort}
 use Rattle.gate_list.proofs.Rows.{none-holds, first-holds, none-left, none-right}
-use Rattle.gate_list.proofs.Encoding.{length-gates, length-encode, good-qubits, good-raw, good-head, gates-within, encode-gates, inverse-inverse, length-inverse, within-append, within-inverse, two-bytes-back, encoded-gates, encoded-good}
+use Rattle.gate_list.proofs.GateLaws.{inverse-inverse, length-inverse, within-append, within-inverse}
+use Rattle.gate_list.proofs.Encoding.{length-gates, length-encode, good-qubits, good-raw, good-head, gates-within, encode-gates, two-bytes-back, encoded-gates, encoded-good}
 
 -- a reading is not both accepted and refused
 one-reading : {n : ℕ} {gs : List Gate} {f : Fault} → accepted n gs ≡ refused f → ⊥

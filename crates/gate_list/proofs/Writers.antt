@@ -1,12 +1,12 @@
 -- What the writers answer and leave, from what the checks before them answered and from the buffer's length.
 -- Assumes nothing.
-use mathlib.Core.Path.{_≡_, refl, _∙_}
+use mathlib.Core.Path.{_≡_, _∙_}
 use Prim.Native.Nat.{ℕ, _+_, _*_, _≤_, _<_}
 use native.Mathlib.Nat.{add-assoc}
 use native.Mathlib.Omega.{arith}
 use mathlib.Core.Logic.{_≢_}
 use mathlib.Core.Bool.{cond}
-use mathlib.Core.Option.{Option, none, some}
+use mathlib.Core.Option.{none, some}
 use mathlib.Core.List.{List, [], _∷_, _++_, append-assoc}
 use lib.ListN.{length, take, drop, length-append, length-take, length-drop, length-map, length-reverse}
 use lib.Seq.{take-append-add}
@@ -14,19 +14,18 @@ use lib.Dec.{ltb, eqb}
 use borrow.Author.Tests.{lt-ltb, le-ltb, eq-eqb, ne-eqb}
 use Rattle.gate_list.specs.Gate.{Raw, inverseList}
 use Rattle.gate_list.specs.Row.{Fault, Row, row, first}
-use Rattle.gate_list.specs.Reading.{accepted, size, qubits, count, gates, gateRows, recordRows, unless, read}
+use Rattle.gate_list.specs.Reading.{size, qubits, count, gates, gateRows, recordRows, read}
 use Rattle.gate_list.specs.Answer.{gives, refuses, numberOf, checkedAnswer, gateFault}
 use Rattle.gate_list.specs.declared.Refusal.{Refusal}
 use Rattle.gate_list.specs.declared.Checked.{Checked}
-use Rattle.gate_list.specs.declared.Checked.the-variants.{Accepted}
 use Rattle.gate_list.specs.declared.gate.GateCheck.{GateCheck}
 use Rattle.gate_list.specs.declared.gate.GateCheck.the-variants.{Good}
 use Rattle.gate_list.specs.Writing.{Outcome, headBytes, encode, checkAnswer, write, add, inverse}
 use Rattle.gate_list.specs.Inner.{appended, inverseBytes}
 use Rattle.gate_list.proofs.Rows.{first-none, first-some}
-use Rattle.gate_list.proofs.Encoding.{GoodHead, good-head, length-gates, length-encode, encode-appended, encode-inverse}
+use Rattle.gate_list.proofs.Encoding.{length-gates, length-encode, encode-appended, encode-inverse}
 use Rattle.gate_list.proofs.Storing.{behind-head}
-use Rattle.gate_list.proofs.Reading.{Accepts, accepts, refuses-by}
+use Rattle.gate_list.proofs.Reading.{Accepts, refuses-by}
 
 -- a writer that is turned down by number k leaves the buffer l alone
 abbrev pub turnedDown : ℕ → List ℕ → Outcome

@@ -1,7 +1,7 @@
 -- Gates in their typed form, and as the three bytes of document 01, "Gate lists as bytes". The layers above speak of these.
 -- Assumes nothing.
 use mathlib.Core.Logic.{_≢_}
-use Prim.Native.Nat.{ℕ, _+_, _-_, _<_}
+use Prim.Native.Nat.{ℕ, _-_, _<_}
 use mathlib.Core.Bool.{cond}
 use mathlib.Core.List.{List, [], _∷_, _++_, map, reverse}
 use lib.ListN.{getD}

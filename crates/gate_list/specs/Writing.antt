@@ -8,7 +8,7 @@ use lib.Dec.{ltb, eqb}
 use Rattle.gate_list.specs.Format.{listMark, headSize, mostGates, twoBytes}
 use Rattle.gate_list.specs.Gate.{Gate, Raw, gateOf, bodyBytes, inverseList}
 use Rattle.gate_list.specs.Row.{Fault, Row, row, first}
-use Rattle.gate_list.specs.Reading.{Reading, accepted, refused, qubits, count, body, gates, badQubits, gateRows, recordRows, read}
+use Rattle.gate_list.specs.Reading.{Reading, accepted, refused, qubits, count, body, gates, badQubits, gateRows, recordRows}
 use Rattle.gate_list.specs.Answer.{Answer, gives, refuses}
 
 -- the head of a record: mark, n, g

@@ -1,0 +1,13 @@
+-- The laws of amplitudes. In order: identities that pin the gates, numbers and their sizes, the exclusive or, bits, lists as linear maps,
+-- inverses, sizes added up, two lists compared by one number, and Y.
+pub mod Identities
+pub mod NumberLaws
+pub mod Norm
+pub mod XorLaws
+pub mod BitLaws
+pub mod Linear
+pub mod Outside
+pub mod Inverse
+pub mod Total
+pub mod Bridge
+pub mod YLaw

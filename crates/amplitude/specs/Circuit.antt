@@ -1,0 +1,69 @@
+-- Gate lists as linear maps, exactly: document 01, "Amplitudes". A state gives each output's number its amplitude. H stands
+-- without its factor, so the true amplitudes of a list with h H gates are these divided by √2 h times.
+-- Assumes nothing.
+use mathlib.Core.Path.{_≡_}
+use Prim.Native.Nat.{ℕ, _+_, _^_, _<_}
+use mathlib.Core.Bool.{true, false, cond, _&&_, _||_, xor}
+use mathlib.Core.List.{List, [], _∷_}
+use lib.Dec.{eqb}
+use Rattle.gate_list.specs.Gate.{Gate, one, two, CX, CZ, SWAP, oneQubitKind}
+use Rattle.amplitude.specs.Number.{Zω, 0ω, 1ω, _⊕_, ω^, √2^}
+use Rattle.amplitude.specs.Bits.{digit, bit, put}
+use Rattle.amplitude.specs.Matrix.{matrix, entry, times}
+
+abbrev pub State : Type 0
+State = ℕ → Zω
+
+-- the state of one input: 1 there, 0 elsewhere
+unfoldable pub basis : ℕ → State
+basis v w = cond (eqb v w) 1ω 0ω
+
+-- what a gate makes of a state: a one-qubit gate by its matrix; CX flips b where a is 1; CZ negates where both are 1; SWAP
+-- exchanges the two bits
+unfoldable pub apply : Gate → State → State
+apply (one u q) ψ w =
+    times (entry (matrix u) (bit q w) false) (ψ (put q false w)) ⊕ times (entry (matrix u) (bit q w) true) (ψ (put q true w))
+apply (two CX a b) ψ w = ψ (put b (xor (bit a w) (bit b w)) w)
+apply (two CZ a b) ψ w = cond (bit a w && bit b w) (ω^ 4 (ψ w)) (ψ w)
+apply (two SWAP a b) ψ w = ψ (put a (bit b w) (put b (bit a w) w))
+
+-- gates run in list order
+unfoldable pub run : List Gate → State → State
+run [] ψ = ψ
+run (g ∷ gs) ψ = run gs (apply g ψ)
+
+-- column v: the list's amplitudes from input v
+unfoldable pub column : List Gate → ℕ → State
+column gs v = run gs (basis v)
+
+-- a weight, added up over the gates of a list
+unfoldable pub tally : (Gate → ℕ) → List Gate → ℕ
+tally weight [] = 0
+tally weight (g ∷ gs) = weight g + tally weight gs
+
+-- 1 for an H gate, kind 7
+abbrev pub isH : Gate → ℕ
+isH (one u q) = digit (eqb (oneQubitKind u) 7)
+isH (two v a b) = 0
+
+-- 1 for a T gate or its inverse, kinds 5 and 6
+abbrev pub isT : Gate → ℕ
+isT (one u q) = digit (eqb (oneQubitKind u) 5 || eqb (oneQubitKind u) 6)
+isT (two v a b) = 0
+
+-- the H gates of a list, and its T gates
+abbrev pub hGates : List Gate → ℕ
+hGates gs = tally isH gs
+
+abbrev pub tGates : List Gate → ℕ
+tGates gs = tally isT gs
+
+-- ω^j carries column v of the first list to that of the second, over the outputs of n qubits: the first multiplied by √2 as
+-- often as the second has H gates, and the other way round
+abbrev pub Fits : ℕ → ℕ → List Gate → List Gate → ℕ → Type 0
+Fits n j first second v =
+    (w : ℕ) → w < 2 ^ n → ω^ j (√2^ (hGates second) (column first v w)) ≡ √2^ (hGates first) (column second v w)
+
+-- ω^j carries the first list to the second: every amplitude, at every input and output of n qubits
+abbrev pub Carries : ℕ → ℕ → List Gate → List Gate → Type 0
+Carries n j first second = (v : ℕ) → v < 2 ^ n → Fits n j first second v
