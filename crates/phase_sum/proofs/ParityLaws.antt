@@ -8,7 +8,7 @@ use Rattle.amplitude.proofs.BitLaws.{bit-power, bit-power-other}
 use Rattle.phase_sum.specs.Sets.{_△_, single, parity}
 use Rattle.phase_sum.specs.Parity.{Parity, value, of, _⊻_, complement, rest, replaceIn}
 use Rattle.amplitude.proofs.XorLaws.{xor-falseʳ, xor-trueˡ, xor-self, xor-comm, xor-assoc, xor-cancel, xor-left-comm, xor-swap}
-use Rattle.phase_sum.proofs.SetLaws.{bit-△, parity-△, parity-single, parity-flip}
+use Rattle.phase_sum.proofs.SetLaws.{bit-△, parity-△, parity-single, parity-flip, parity-agree}
 
 -- the value of an exclusive or
 pub value-⊻ : (p q : Parity) (x : ℕ) → value (_⊻_ p q) x ≡ xor (value p x) (value q x)
@@ -83,3 +83,8 @@ replaceIn-bit-other v z p w ne = go (bit z (w .vars)) refl
 pub replaceIn-absent : (z : ℕ) (p w : Parity) → bit z (w .vars) ≡ false → replaceIn z p w ≡ w
 unfolding replaceIn
 replaceIn-absent z p w h = rw h
+
+-- a parity has the same value at assignments that agree on its variables
+pub value-agree : (p : Parity) (x y : ℕ) → ((v : ℕ) → bit v (p .vars) ≡ true → bit v x ≡ bit v y) → value p x ≡ value p y
+unfolding value
+value-agree p x y h = rw (parity-agree (p .vars) x y h)

@@ -16,16 +16,17 @@ use Rattle.gate_list.specs.Gate.{Gate, one, two, X, Y, Z, S, S†, T, T†, H, 
 use Rattle.amplitude.specs.Bits.{bit}
 use Rattle.amplitude.specs.Circuit.{tally, isH, hGates}
 use Rattle.amplitude.proofs.BitLaws.{bit-zero, bit-power-other}
-use Rattle.phase_sum.specs.Sets.{_△_, single, without, from, Among, here, there}
+use Rattle.phase_sum.specs.Sets.{_△_, single, without, from, Among, here, there, firstIn}
 use Rattle.phase_sum.specs.Parity.{Parity, of, _⊻_, complement, rest, replaceIn}
 use Rattle.phase_sum.specs.Phase.{Term, Phase, addConstant, addPhase, rebuild}
 use Rattle.phase_sum.specs.Building.{PathSum, input, initial, wire, setWire, withPhase, turnBy, product, hadamard, gate, gatesFrom, build}
 use Rattle.phase_sum.specs.Stepping.{replace, outOf, oddHalves, takeOut, turned}
 use Rattle.phase_sum.proofs.SetLaws.{bit-△}
-use Rattle.phase_sum.proofs.VariableLaws.{Rising, without-among, among-without, rising-without, length-without, from-among, from-rising, from-length, from-snoc}
+use Rattle.phase_sum.proofs.VariableLaws.{Rising, without-among, among-without, rising-without, length-without, from-among, from-rising, from-length, from-snoc, firstIn-none}
 use Rattle.phase_sum.proofs.ParityLaws.{bit-out-same, rest-free, replaceIn-free}
 use Rattle.phase_sum.proofs.PhaseLaws.{Every, every-map, every-addPhase, every-rebuild, constant-below-addConstant, constant-below-addPhase, constant-below-rebuild}
 use Rattle.phase_sum.proofs.Replacing.{wire-replace}
+use mathlib.Core.Option.{none}
 
 -- a set holds only inputs and live variables
 abbrev pub Holds : ℕ → List ℕ → ℕ → Type 0
@@ -422,3 +423,9 @@ pub holds-mismatch :
 unfolding _⊻_
 holds-mismatch scratch n q s l h =
     holds-△ n (s .live) (wire q s .vars) (input scratch q .vars) (h q) (holds-input scratch n (s .live) q l)
+
+-- a set of inputs and live variables in which no live variable is found holds only inputs
+pub holds-inputs :
+    (n : ℕ) (live : List ℕ) (s : ℕ) → Holds n live s → firstIn live s ≡ none → (v : ℕ) → bit v s ≡ true → v < n
+holds-inputs n live s holds e v h =
+    ⊎-elim (λ low. low) (λ a. absurd (true≢false (sym h ∙ firstIn-none live s e v a))) (holds v h)
