@@ -81,6 +81,10 @@ carries n j first second h v l w k =
 pub hh : Carries 1 0 (one H 0 ∷ one H 0 ∷ []) []
 hh = carries 1 0 _ _ (unfold test in refl)
 
+-- the other way round, where the second list has the H gates
+pub nothing-hh : Carries 1 0 [] (one H 0 ∷ one H 0 ∷ [])
+nothing-hh = carries 1 0 _ _ (unfold test in refl)
+
 -- X between two H is Z
 pub hxh : Carries 1 0 (one H 0 ∷ one X 0 ∷ one H 0 ∷ []) (one Z 0 ∷ [])
 hxh = carries 1 0 _ _ (unfold test in refl)
@@ -132,38 +136,3 @@ cx-by-cz = carries 2 0 _ _ (unfold test in refl)
 -- SWAP from three CX
 pub swap-by-cx : Carries 2 0 (two CX 0 1 ∷ two CX 1 0 ∷ two CX 0 1 ∷ []) (two SWAP 0 1 ∷ [])
 swap-by-cx = carries 2 0 _ _ (unfold test in refl)
-
--- T multiplies input 1 by ω
-pub t-turns : column (one T 0 ∷ []) 1 1 ≡ ω^ 1 1ω
-unfolding fits
-t-turns = refl
-
--- qubit 1 is the bit of worth 2
-pub x-qubit : column (one X 1 ∷ []) 0 2 ≡ 1ω
-unfolding fits
-x-qubit = refl
-
--- CX flips its second qubit where its first is 1
-pub cx-target : column (two CX 0 1 ∷ []) 1 3 ≡ 1ω
-unfolding fits
-cx-target = refl
-
--- a list runs from its first gate: T meets the 1 that X has made
-pub x-first : column (one X 0 ∷ one T 0 ∷ []) 0 1 ≡ ω^ 1 1ω
-unfolding fits
-x-first = refl
-
--- and meets the 0 before it
-pub x-last : column (one T 0 ∷ one X 0 ∷ []) 0 1 ≡ 1ω
-unfolding fits
-x-last = refl
-
--- Y at input 0 gives i
-pub y-zero : column (one Y 0 ∷ []) 0 1 ≡ ω^ 2 1ω
-unfolding fits
-y-zero = refl
-
--- and at input 1 gives −i
-pub y-one : column (one Y 0 ∷ []) 1 0 ≡ ω^ 6 1ω
-unfolding fits
-y-one = refl

@@ -14,10 +14,10 @@ use Rattle.gate_list.specs.Gate.{Gate, one, two, X, Y, Z, S, S†, T, T†, H, 
 use Rattle.phase_sum.specs.Sets.{firstIn}
 use Rattle.phase_sum.specs.Parity.{Parity, rest}
 use Rattle.phase_sum.specs.Phase.{Term, Phase, sumAt, phaseAt, minus, addTerm, addConstant, addPhase, rebuild}
-use Rattle.phase_sum.specs.Building.{PathSum, initial, setWire, withPhase, hadamard, gate, gatesFrom, build, joined}
+use Rattle.phase_sum.specs.Building.{PathSum, initial, setWire, withPhase, hadamard, gate, gatesFrom, build}
 use Rattle.phase_sum.specs.Stepping.{replace, firstReady, takeOut, turned, Kind, sum, turn, constraint, kindOf, constrained}
 use Rattle.comparison.specs.Reduction.{Counts, End, blocks, isZero, mismatch, addPin, pinFrom, Next, goes, stuck, stepWith, reduceFrom, reduceEnd, reduced}
-use Rattle.comparison.specs.Verdict.{candidates, left, firstDiffering, searched, judge, compare}
+use Rattle.comparison.specs.Verdict.{candidates, left, firstDiffering, searched, judge, compare, joined}
 
 -- two phases with the same terms; their constants may differ
 data SameTerms : Phase → Phase → Type 0 where

@@ -1,7 +1,10 @@
--- Theorems of the comparison. In order: its results on single pairs, what the search finds, what pinning and reducing do to the
--- sum, and that Y's factor changes no output.
-pub mod Table
+-- Theorems of the comparison. In order: what the search finds; what pinning and reducing do to the sum; that Y's factor changes no
+-- output; what holds after every step; how verdicts come about; the demands, and the demands for two accepted records.
 pub mod Weight
 pub mod Pinning
 pub mod Reducing
 pub mod Bare
+pub mod Reached
+pub mod Outcomes
+pub mod Theorems
+pub mod Bytes

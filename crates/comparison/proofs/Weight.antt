@@ -113,7 +113,7 @@ holding n [] = []
 holding n (t ∷ ts) = cond (bit n (t .set)) (t ∷ holding n ts) (holding n ts)
 
 -- terms add nothing at 0
-sum-zero : (ts : List Term) → sumAt ts 0 ≡ 0
+pub sum-zero : (ts : List Term) → sumAt ts 0 ≡ 0
 unfolding sumAt
 sum-zero [] = refl
 sum-zero (t ∷ ts) = rw (parity-zero (t .set), sum-zero ts) (omega arith)

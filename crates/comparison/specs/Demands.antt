@@ -11,10 +11,10 @@ use Rattle.gate_list.specs.Gate.{Gate}
 use Rattle.amplitude.specs.Circuit.{Fits, Carries, hGates, tGates}
 use Rattle.phase_sum.specs.Sets.{Among}
 use Rattle.phase_sum.specs.Phase.{minus, inOdd}
-use Rattle.phase_sum.specs.Building.{build, joined}
+use Rattle.phase_sum.specs.Building.{build}
 use Rattle.comparison.specs.Reduction.{pinned}
 use Rattle.comparison.specs.Steps.{Steps}
-use Rattle.comparison.specs.Verdict.{equal, different, undecided, endOf, compare}
+use Rattle.comparison.specs.Verdict.{equal, different, undecided, endOf, compare, joined}
 
 module _ (n : ℕ) (first second : List Gate) where
   -- one power of ω carries every amplitude of the first list to the same amplitude of the second
@@ -31,30 +31,30 @@ module _ (n : ℕ) (first second : List Gate) where
   DifferentIsRight =
       compare 0 n first second .verdict ≡ different
       → (compare 0 n first second .first < 2 ^ n)
-        × (compare 0 n first second .second < 2 ^ n)
-        × ((j : ℕ)
-           → Fits n j first second (compare 0 n first second .first)
-           → Fits n j first second (compare 0 n first second .second)
-           → ⊥)
+      × (compare 0 n first second .second < 2 ^ n)
+      × ((j : ℕ)
+      → Fits n j first second (compare 0 n first second .first)
+      → Fits n j first second (compare 0 n first second .second)
+      → ⊥)
 
   -- undecided is said exactly where the steps stop, not blocked, with path variables left, each in a term of odd coefficient
   abbrev pub UndecidedIsStuck : Type 0
   UndecidedIsStuck =
       (compare 0 n first second .verdict ≡ undecided)
       ↔ ((endOf 0 n first second .blockedBy ≡ none)
-         × (endOf 0 n first second .sum .live ≡ [] → ⊥)
-         × ((y : ℕ)
-            → Among y (endOf 0 n first second .sum .live)
-            → inOdd y (endOf 0 n first second .sum .phase .terms) ≡ true))
+      × (endOf 0 n first second .sum .live ≡ [] → ⊥)
+      × ((y : ℕ)
+      → Among y (endOf 0 n first second .sum .live)
+      → inOdd y (endOf 0 n first second .sum .phase .terms) ≡ true))
 
   -- where the reduction ends is reached by document 01's steps from the pinned sum
   abbrev pub ReachedBySteps : Type 0
   ReachedBySteps =
       pinned 0 n (build 0 n (joined first second)) .blockedBy ≡ none
       → Steps (pinned 0 n (build 0 n (joined first second)) .sum)
-        (pinned 0 n (build 0 n (joined first second)) .counts)
-        (endOf 0 n first second .sum)
-        (endOf 0 n first second .counts)
+      (pinned 0 n (build 0 n (joined first second)) .counts)
+      (endOf 0 n first second .sum)
+      (endOf 0 n first second .counts)
 
   -- inputs are 0 and 0 unless different
   abbrev pub InputsOnlyIfDifferent : Type 0
@@ -86,14 +86,14 @@ module _ (n : ℕ) (first second : List Gate) where
   CliffordIsDecided =
       NoT
       → ((compare 0 n first second .verdict ≡ equal) ↔ SomePower)
-        × ((compare 0 n first second .verdict ≡ equal) ⊎ (compare 0 n first second .verdict ≡ different))
+      × ((compare 0 n first second .verdict ≡ equal) ⊎ (compare 0 n first second .verdict ≡ different))
 
   -- if after pinning no path variable is in a term of odd coefficient, the same holds with T present
   abbrev pub EvenIsDecided : Type 0
   EvenIsDecided =
       ((v : ℕ)
-       → n ≤ v
-       → inOdd v (pinned 0 n (build 0 n (joined first second)) .sum .phase .terms) ≡ true
-       → ⊥)
+      → n ≤ v
+      → inOdd v (pinned 0 n (build 0 n (joined first second)) .sum .phase .terms) ≡ true
+      → ⊥)
       → ((compare 0 n first second .verdict ≡ equal) ↔ SomePower)
-        × ((compare 0 n first second .verdict ≡ equal) ⊎ (compare 0 n first second .verdict ≡ different))
+      × ((compare 0 n first second .verdict ≡ equal) ⊎ (compare 0 n first second .verdict ≡ different))

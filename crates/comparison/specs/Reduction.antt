@@ -59,11 +59,11 @@ unfoldable pub pinFrom : ℕ → ℕ → ℕ → PathSum → Counts → End
 pinFrom scratch zero q s c = stops s c
 pinFrom scratch (suc m) q s c =
     elim (firstIn (s .live) (mismatch scratch q s .vars)) [
-        some z ↦ pinFrom scratch m (suc q) (replace z (rest z (mismatch scratch q s)) s) (addPin c)
+      | some z ↦ pinFrom scratch m (suc q) (replace z (rest z (mismatch scratch q s)) s) (addPin c)
       | none ↦ elim (isZero (mismatch scratch q s)) [
-            true ↦ pinFrom scratch m (suc q) s c
-          | false ↦ blocks (mismatch scratch q s) s c
-        ]
+        | true ↦ pinFrom scratch m (suc q) s c
+        | false ↦ blocks (mismatch scratch q s) s c
+      ]
     ]
 
 -- what one step gives: the next sum and counts, or the parity that blocks it
@@ -75,12 +75,12 @@ pub data Next : Type 0 where
 unfoldable pub stepWith : ℕ → ℕ → ℕ → PathSum → Counts → Next
 stepWith y k l s c =
     elim (kindOf k l) [
-        sum ↦ goes (takeOut y s) (addSum c)
+      | sum ↦ goes (takeOut y s) (addSum c)
       | turn ↦ goes (turned k l (takeOut y s)) (addTurn c)
       | constraint ↦ elim (firstIn (takeOut y s .live) l) [
-            some z ↦ goes (replace z (rest z (constrained k l)) (takeOut y s)) (addJoin c)
-          | none ↦ stuck (constrained k l)
-        ]
+        | some z ↦ goes (replace z (rest z (constrained k l)) (takeOut y s)) (addJoin c)
+        | none ↦ stuck (constrained k l)
+      ]
     ]
 
 abbrev pub stepAt : ℕ → PathSum → Counts → Next
@@ -92,7 +92,7 @@ unfoldable pub reduceFrom : ℕ → PathSum → Counts → End
 reduceFrom zero s c = stops s c
 reduceFrom (suc m) s c =
     elim (firstReady (s .live) (s .phase .terms)) [
-        none ↦ stops s c
+      | none ↦ stops s c
       | some y ↦ elim (stepAt y s c) [ goes t d ↦ reduceFrom m t d | stuck q ↦ blocks q s c ]
     ]
 

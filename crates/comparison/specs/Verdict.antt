@@ -6,12 +6,12 @@ use mathlib.Core.List.{List, [], _∷_, _++_, map}
 use mathlib.Core.Option.{Option, none, some}
 use lib.ListN.{length}
 use lib.Dec.{eqb}
-use Rattle.gate_list.specs.Gate.{Gate}
+use Rattle.gate_list.specs.Gate.{Gate, inverseList}
 use Rattle.amplitude.specs.Bits.{bit}
 use Rattle.phase_sum.specs.Sets.{firstIn, from}
 use Rattle.phase_sum.specs.Parity.{Parity}
 use Rattle.phase_sum.specs.Phase.{Phase, phaseAt}
-use Rattle.phase_sum.specs.Building.{build, joined}
+use Rattle.phase_sum.specs.Building.{build}
 use Rattle.comparison.specs.Reduction.{End, reduced}
 
 -- the inputs below 2^n of weight k, with zeros at the scratch qubits, lower numbers first
@@ -57,7 +57,7 @@ result v a b e =
       sums = e .counts .sums;
       turns = e .counts .turns;
       joins = e .counts .joins;
-      left = left e
+      left = left e;
     }
 
 -- an input that makes a blocked parity 1: 0 if its constant is 1, else the input holding only its lowest qubit
@@ -68,20 +68,24 @@ blockedInput n q = cond (q .flipped) 0 (elim (firstIn (from 0 n) (q .vars)) [ no
 unfoldable pub searched : ℕ → ℕ → End → Result
 searched scratch n e =
     elim (eqb (e .counts .pins) (e .counts .sums)) [
-        false ↦ result different 0 0 e
+      | false ↦ result different 0 0 e
       | true ↦ elim (firstDiffering (e .sum .phase) (candidates scratch n)) [
-            some v ↦ result different 0 v e
-          | none ↦ result equal 0 0 e
-        ]
+        | some v ↦ result different 0 v e
+        | none ↦ result equal 0 0 e
+      ]
     ]
 
 -- the verdict on where the reduction ended
 unfoldable pub judge : ℕ → ℕ → End → Result
 judge scratch n e =
     elim (e .blockedBy) [
-        some q ↦ result different (blockedInput n q) (blockedInput n q) e
+      | some q ↦ result different (blockedInput n q) (blockedInput n q) e
       | none ↦ elim (eqb (left e) 0) [ true ↦ searched scratch n e | false ↦ result undecided 0 0 e ]
     ]
+
+-- first list, then the second backwards with S and T exchanged for their inverses
+abbrev pub joined : List Gate → List Gate → List Gate
+joined first second = first ++ inverseList second
 
 -- where the reduction of a pair ends
 abbrev pub endOf : ℕ → ℕ → List Gate → List Gate → End

@@ -1,5 +1,4 @@
 -- Lemmas by topic, and the proofs of specs/Promises.antt in Theorems.
-pub mod Cases
 pub mod GateLaws
 pub mod Rows
 pub mod Encoding

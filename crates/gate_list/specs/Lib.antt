@@ -1,5 +1,6 @@
 -- What a reader of the record layer must believe. In order: the format's numbers, gates, the refusal table's rows, reading a
--- record, what the answers' cases mean in document 01's numbers, writing a record, the report, and what all this promises.
+-- record, what the answers' cases mean in document 01's numbers, writing a record, the report, what all this promises,
+-- and worked cases.
 -- Inner is of the private functions alone.
 pub mod Format
 pub mod Gate
@@ -9,4 +10,5 @@ pub mod Answer
 pub mod Writing
 pub mod Report
 pub mod Promises
+pub mod Cases
 pub mod Inner

@@ -73,7 +73,3 @@ gatesFrom y n (g ∷ gs) s = gatesFrom y n gs (gate y n g s)
 -- the sum of a list on n qubits, with the published Y
 unfoldable pub build : ℕ → ℕ → List Gate → PathSum
 build scratch n gs = gatesFrom 2 n gs (initial scratch n)
-
--- first list, then the second backwards with S and T exchanged for their inverses
-abbrev pub joined : List Gate → List Gate → List Gate
-joined first second = first ++ inverseList second

@@ -7,3 +7,4 @@ pub mod Building
 pub mod Stepping
 pub mod Meaning
 pub mod Room
+pub mod Cases
