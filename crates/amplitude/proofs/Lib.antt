@@ -1,5 +1,6 @@
--- The laws of amplitudes. In order: identities that pin the gates, numbers and their sizes, the exclusive or, bits, lists as linear maps,
+-- The laws of amplitudes. In order: single amplitudes and identities that pin the gates, numbers and their sizes, the exclusive or, bits, lists as linear maps,
 -- inverses, sizes added up, two lists compared by one number, and Y.
+pub mod Anchors
 pub mod Identities
 pub mod NumberLaws
 pub mod Norm

@@ -10,7 +10,8 @@ use Rattle.gate_list.proofs.Theorems.{accepted-is-sound}
 use Rattle.amplitude.specs.Circuit.{hGates}
 use Rattle.phase_sum.specs.Room.{room}
 use Rattle.phase_sum.proofs.Roominess.{room-fits}
-use Rattle.comparison.proofs.Theorems.{Demands, demands}
+use Rattle.comparison.specs.Demands.{Demands}
+use Rattle.comparison.proofs.Theorems.{demands}
 
 module _ (s t : List ℕ) (n : ℕ) (first second : List Gate) (l : read s ≡ accepted n first) (r : read t ≡ accepted n second) where
   -- all demands

@@ -21,21 +21,12 @@ use Rattle.phase_sum.specs.Meaning.{phasor, remaining}
 use Rattle.phase_sum.specs.Room.{roomFor, room}
 use Rattle.phase_sum.proofs.Wellformed.{live-build}
 use Rattle.phase_sum.proofs.Roominess.{room-build, tally-inverse-room}
-use Rattle.comparison.specs.Reduction.{Counts, counts, End, pinned}
-use Rattle.comparison.specs.Steps.{Steps}
-use Rattle.comparison.specs.Verdict.{candidates, firstDiffering, joined}
-use Rattle.comparison.specs.Demands.{NoT}
+use Rattle.comparison.specs.Reduction.{Counts, counts, factor}
+use Rattle.comparison.specs.Verdict.{candidates, firstDiffering, joined, pinnedOf}
+use Rattle.comparison.specs.Demands.{NoT, Reached}
 use Rattle.comparison.proofs.Weight.{sum-zero, search-none}
 use Rattle.comparison.proofs.Pinning.{PinEnd, pin-ends, pinned-diagonal}
-use Rattle.comparison.proofs.Reducing.{factor, Kept, steps-keep, live-empty-phase}
-
--- where pinning the sum of a pair ends
-abbrev pub pinnedOf : ℕ → ℕ → List Gate → List Gate → End
-pinnedOf scratch n first second = pinned scratch n (build scratch n (joined first second))
-
--- the sum t with the counts d is reached by steps from the pinned sum of a pair
-abbrev pub Reached : ℕ → ℕ → List Gate → List Gate → PathSum → Counts → Type 0
-Reached scratch n first second t d = Steps (pinnedOf scratch n first second .sum) (pinnedOf scratch n first second .counts) t d
+use Rattle.comparison.proofs.Reducing.{Kept, steps-keep, live-empty-phase}
 
 -- the joined list has the H gates of both
 hGates-joined : (first second : List Gate) → hGates (joined first second) ≡ hGates first + hGates second

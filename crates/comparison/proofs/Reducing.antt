@@ -26,13 +26,9 @@ use Rattle.phase_sum.proofs.StepLaws.{constraint-kind, sum-law, turn-law, const
 use Rattle.phase_sum.proofs.Wellformed.{Good, good-takeOut, live-takeOut, good-turned, good-replace, live-replace, holds-oddHalves}
 use Rattle.phase_sum.proofs.Evenness.{OddIn, Inputs, even-takeOut, even-turned, even-replace, even-ready}
 use Rattle.phase_sum.proofs.Roominess.{terms-takeOut, terms-turned, terms-replace}
-use Rattle.comparison.specs.Reduction.{Counts, addSum, addTurn, addJoin, End, stops, blocks, isZero, Next, goes, stuck, stepWith, stepAt, reduceFrom}
+use Rattle.comparison.specs.Reduction.{Counts, addSum, addTurn, addJoin, End, stops, blocks, isZero, Next, goes, stuck, stepWith, stepAt, reduceFrom, factor}
 use Rattle.comparison.specs.Steps.{Ready, cOf, lOf, Step, sums, turns, joins, Steps, more}
 use Rattle.phase_sum.proofs.ParityLaws.{value-agree}
-
--- the power of √2 that the steps have given
-abbrev pub factor : Counts → ℕ
-factor c = 2 * c .sums + c .turns + 2 * c .joins
 
 -- what steps from s with counts c to t with counts d keep
 pub record Kept (n : ℕ) (s : PathSum) (c : Counts) (t : PathSum) (d : Counts) : Type 0 where

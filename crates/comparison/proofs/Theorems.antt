@@ -2,16 +2,16 @@
 -- the room that the terms take.
 -- Assumes nothing.
 use mathlib.Core.Path.{_≡_, sym, _∙_}
-use mathlib.Core.Logic.{_↔_, _⊎_, ⊎-elim}
+use mathlib.Core.Logic.{_⊎_, ⊎-elim}
 use mathlib.Core.Bool.{true, true≢false}
 use mathlib.Core.List.{List, []}
 use mathlib.Core.Option.{none, some}
-use Prim.Native.Nat.{ℕ, _+_, _*_, _^_, _<_, _≤_}
+use Prim.Native.Nat.{ℕ, _+_, _*_, _^_, _<_}
 use native.Mathlib.Omega.{arith}
 use lib.ListN.{length}
 use lib.Pow.{pow-pos}
 use Rattle.gate_list.specs.Gate.{Gate, AllWithin}
-use Rattle.amplitude.specs.Number.{0ω, √2^}
+use Rattle.amplitude.specs.Number.{0ω}
 use Rattle.amplitude.specs.Circuit.{column, hGates, Fits, Carries}
 use Rattle.amplitude.proofs.BitLaws.{bit-zero}
 use Rattle.amplitude.proofs.NumberLaws.{√2^-0ω}
@@ -19,60 +19,16 @@ use Rattle.amplitude.proofs.Bridge.{zero-diagonal}
 use Rattle.phase_sum.specs.Sets.{Among, Clear}
 use Rattle.phase_sum.specs.Parity.{Parity}
 use Rattle.phase_sum.specs.Phase.{minus, inOdd}
-use Rattle.phase_sum.specs.Building.{PathSum, build}
-use Rattle.phase_sum.specs.Meaning.{remaining}
-use Rattle.phase_sum.specs.Room.{room}
 use Rattle.phase_sum.proofs.Evenness.{OddIn, Inputs, ready-even, noOdd-even, noOdd-build}
 use Rattle.phase_sum.proofs.Roominess.{room-build}
-use Rattle.comparison.specs.Reduction.{Counts, End}
-use Rattle.comparison.specs.Steps.{Steps}
-use Rattle.comparison.specs.Verdict.{equal, different, undecided, Result, blockedInput, endOf, compare, joined}
-use Rattle.comparison.specs.Demands.{SomePower, EqualIsRight, DifferentIsRight, UndecidedIsStuck, ReachedBySteps, InputsOnlyIfDifferent, CountsAddUp, FewSteps, CliffordIsDecided, EvenIsDecided}
+use Rattle.comparison.specs.Reduction.{End, factor}
+use Rattle.comparison.specs.Verdict.{equal, different, undecided, Result, blockedInput, endOf, compare, joined, pinnedOf}
+use Rattle.comparison.specs.Demands.{SomePower, EqualIsRight, DifferentIsRight, UndecidedIsStuck, ReachedBySteps, InputsOnlyIfDifferent, CountsAddUp, FewSteps, Decided, CliffordIsDecided, EvenIsDecided, EveryStep, EndOfSteps, BuiltFits, EveryStepFits, Demands}
 use Rattle.comparison.proofs.Weight.{search-some}
 use Rattle.comparison.proofs.Pinning.{blocked-input, pin-blocked}
-use Rattle.comparison.proofs.Reducing.{factor, reduce-steps, reduce-blocks, stuck-inputs, stuck-nonzero, stuck-zero}
-use Rattle.comparison.proofs.Reached.{pinnedOf, Reached, room-joined, noT-joined, within-joined, pin-end, kept, steps-count, steps-fit, steps-diagonal, fits-sized, same-carries, phases-apart}
+use Rattle.comparison.proofs.Reducing.{reduce-steps, reduce-blocks, stuck-inputs, stuck-nonzero, stuck-zero}
+use Rattle.comparison.proofs.Reached.{room-joined, noT-joined, within-joined, pin-end, kept, steps-count, steps-fit, steps-diagonal, fits-sized, same-carries, phases-apart}
 use Rattle.comparison.proofs.Outcomes.{Reduced, further, halted, reduces, reduced-steps, reduced-through, reduced-stops, reduced-even, Judged, blocked, unready, unsized, found, same, Shown, shows, judges, reason, judged-undecided, judged-decided, judged-inputs}
-
--- what is shown beside the demands of specs/Demands.antt
-module _ (n : ℕ) (first second : List Gate) where
-  -- the diagonal amplitudes of the first list followed by the inverse of the second are √2, once for each turn and twice for each sum
-  -- and join of d, times the sum that is left in t
-  abbrev pub DiagonalIs : PathSum → Counts → Type 0
-  DiagonalIs t d = (v : ℕ) → v < 2 ^ n → column (joined first second) v v ≡ √2^ (factor d) (remaining t v)
-
-  -- so it is after every step, in whatever order the steps come
-  abbrev pub EveryStep : Type 0
-  EveryStep = pinnedOf 0 n first second .blockedBy ≡ none → (t : PathSum) (d : Counts) → Reached 0 n first second t d → DiagonalIs t d
-
-  -- and where the reduction ends, blocked by a step or not
-  abbrev pub PinnedInvariant : Type 0
-  PinnedInvariant =
-      pinnedOf 0 n first second .blockedBy ≡ none → DiagonalIs (endOf 0 n first second .sum) (endOf 0 n first second .counts)
-
-  -- in particular where it ends not blocked
-  abbrev pub Invariant : Type 0
-  Invariant = endOf 0 n first second .blockedBy ≡ none → DiagonalIs (endOf 0 n first second .sum) (endOf 0 n first second .counts)
-
-  -- the terms of a sum keep to the room of both lists
-  abbrev pub Fitting : PathSum → Type 0
-  Fitting t = length (t .phase .terms) ≤ room first second
-
-  -- those of the sum that is built
-  abbrev pub BuiltFits : Type 0
-  BuiltFits = Fitting (build 0 n (joined first second))
-
-  -- of every sum that steps reach from the pinned one
-  abbrev pub EveryStepFits : Type 0
-  EveryStepFits = (t : PathSum) (d : Counts) → Reached 0 n first second t d → Fitting t
-
-  -- of the pinned one itself
-  abbrev pub PinnedFits : Type 0
-  PinnedFits = Fitting (pinnedOf 0 n first second .sum)
-
-  -- and of the one where the reduction ends
-  abbrev pub TermsFit : Type 0
-  TermsFit = Fitting (endOf 0 n first second .sum)
 
 -- no input has a scratch qubit at 1 where there are none
 clear-none : (v : ℕ) → Clear 0 v
@@ -84,24 +40,16 @@ module _ (n : ℕ) (first second : List Gate) (l : AllWithin n first) (r : AllWi
   ends = reduces (pinnedOf 0 n first second)
 
   -- its end is reached by steps, also where pinning is blocked
-  end-reached : Reached 0 n first second (endOf 0 n first second .sum) (endOf 0 n first second .counts)
-  end-reached = reduced-steps ends
-
-  -- so it is where pinning goes through
   pub reached-by-steps : ReachedBySteps n first second
-  reached-by-steps through = end-reached
+  reached-by-steps = reduced-steps ends
 
   -- after every step the diagonal amplitude is the power of √2 counted so far times the sum that is left
   pub every-step : EveryStep n first second
   every-step through t d steps v b = steps-diagonal 0 n first second l r t d steps through v b (clear-none v)
 
   -- so it is where the reduction ends, also where a step is blocked
-  pub pinned-invariant : PinnedInvariant n first second
-  pinned-invariant through = every-step through _ _ end-reached
-
-  -- in particular where it ends not blocked
-  pub invariant : Invariant n first second
-  invariant free = pinned-invariant (reduced-through ends free)
+  pub end-of-steps : EndOfSteps n first second
+  end-of-steps through = every-step through _ _ reached-by-steps
 
   -- the terms that are built keep to the room of both lists
   pub built-fits : BuiltFits n first second
@@ -110,14 +58,6 @@ module _ (n : ℕ) (first second : List Gate) (l : AllWithin n first) (r : AllWi
   -- so do those after every step
   pub every-step-fits : EveryStepFits n first second
   every-step-fits = steps-fit 0 n first second l r
-
-  -- and those of the pinned sum, before the first step
-  pub pinned-fits : PinnedFits n first second
-  pinned-fits = every-step-fits _ _ Steps.none
-
-  -- and those that are left
-  pub terms-fit : TermsFit n first second
-  terms-fit = every-step-fits _ _ end-reached
 
   -- the result shows the verdict on the end, and its counts
   shown : Shown 0 n (endOf 0 n first second) (compare 0 n first second)
@@ -132,7 +72,7 @@ module _ (n : ℕ) (first second : List Gate) (l : AllWithin n first) (r : AllWi
           {x : Result}
           → Shown 0 n (endOf 0 n first second) x
           → x .pins + x .sums + x .turns + 2 * x .joins + x .left ≡ hGates first + hGates second
-      add-up (shows j) = steps-count 0 n first second l r _ _ end-reached
+      add-up (shows j) = steps-count 0 n first second l r _ _ reached-by-steps
 
   -- so there are no more sums, turns and joins than these
   pub few-steps : FewSteps n first second
@@ -147,7 +87,7 @@ module _ (n : ℕ) (first second : List Gate) (l : AllWithin n first) (r : AllWi
           → Judged 0 n (endOf 0 n first second) equal a b
           → Carries n (minus (endOf 0 n first second .sum .phase .constant)) first second
       carries (same done sized none-found) v b =
-          same-carries 0 n first second l r _ _ end-reached (reduced-through ends (done .0)) (done .1) sized none-found v b (clear-none v)
+          same-carries 0 n first second l r _ _ reached-by-steps (reduced-through ends (done .0)) (done .1) sized none-found v b (clear-none v)
 
   -- where the reduction is blocked, the diagonal amplitude is 0 at the input shown
   blocked-zero :
@@ -180,11 +120,11 @@ module _ (n : ℕ) (first second : List Gate) (l : AllWithin n first) (r : AllWi
           let zero = blocked-zero ends h in
           (zero .0, zero .0, λ j fits again. zero-diagonal n first second _ j l r (zero .0) (zero .1) fits)
       differ (unsized done unequal) =
-          let sized = fits-sized 0 n first second l r _ _ end-reached (reduced-through ends (done .0)) (done .1) in
+          let sized = fits-sized 0 n first second l r _ _ reached-by-steps (reduced-through ends (done .0)) (done .1) in
           (pow-pos n, pow-pos n, λ j fits again. unequal (sized 0 j (pow-pos n) (clear-none 0) fits))
       differ (found {v} done sized differs) =
           let witness = search-some 0 n v (endOf 0 n first second .sum .phase) differs in
-          let apart = phases-apart 0 n first second l r _ _ end-reached (reduced-through ends (done .0)) (done .1) sized in
+          let apart = phases-apart 0 n first second l r _ _ reached-by-steps (reduced-through ends (done .0)) (done .1) sized in
           (pow-pos n, witness .0, λ j. apart 0 v j (pow-pos n) (witness .0) (clear-none 0) (witness .1) (witness .2))
 
   -- undecided: the steps stop, not blocked, with path variables left and none ready
@@ -205,10 +145,7 @@ module _ (n : ℕ) (first second : List Gate) (l : AllWithin n first) (r : AllWi
 
   -- where every odd coefficient of the pinned sum is on inputs alone, the verdict is equal, exactly if one power of ω carries the pair,
   -- or different
-  decided :
-      OddIn (Inputs n) (pinnedOf 0 n first second .sum .phase .terms)
-      → ((compare 0 n first second .verdict ≡ equal) ↔ SomePower n first second)
-      × ((compare 0 n first second .verdict ≡ equal) ⊎ (compare 0 n first second .verdict ≡ different))
+  decided : OddIn (Inputs n) (pinnedOf 0 n first second .sum .phase .terms) → Decided n first second
   decided even = ((carried, λ power. ⊎-elim (λ h. h) (λ h. absurd (refuted power h)) either), either)
     where
       carried : compare 0 n first second .verdict ≡ equal → SomePower n first second
@@ -231,25 +168,6 @@ module _ (n : ℕ) (first second : List Gate) (l : AllWithin n first) (r : AllWi
       (noOdd-even n (pinnedOf 0 n first second .sum .phase .terms)
       (pin-end 0 n first second l r .even (noOdd-build 0 n (joined first second) (noT-joined n first second noT))))
 
--- all demands on a pair
-pub record Demands (n : ℕ) (first second : List Gate) : Type 0 where
-  pub equal-is-right : EqualIsRight n first second
-  pub different-is-right : DifferentIsRight n first second
-  pub undecided-is-stuck : UndecidedIsStuck n first second
-  pub reached-by-steps : ReachedBySteps n first second
-  pub inputs-only-if-different : InputsOnlyIfDifferent n first second
-  pub counts-add-up : CountsAddUp n first second
-  pub few-steps : FewSteps n first second
-  pub clifford-is-decided : CliffordIsDecided n first second
-  pub even-is-decided : EvenIsDecided n first second
-  pub every-step : EveryStep n first second
-  pub pinned-invariant : PinnedInvariant n first second
-  pub invariant : Invariant n first second
-  pub built-fits : BuiltFits n first second
-  pub every-step-fits : EveryStepFits n first second
-  pub pinned-fits : PinnedFits n first second
-  pub terms-fit : TermsFit n first second
-
 -- every pair within n meets them
 pub demands : (n : ℕ) (first second : List Gate) → AllWithin n first → AllWithin n second → Demands n first second
 demands n first second l r =
@@ -264,10 +182,7 @@ demands n first second l r =
       clifford-is-decided = clifford-is-decided n first second l r;
       even-is-decided = even-is-decided n first second l r;
       every-step = every-step n first second l r;
-      pinned-invariant = pinned-invariant n first second l r;
-      invariant = invariant n first second l r;
+      end-of-steps = end-of-steps n first second l r;
       built-fits = built-fits n first second l r;
       every-step-fits = every-step-fits n first second l r;
-      pinned-fits = pinned-fits n first second l r;
-      terms-fit = terms-fit n first second l r;
     }

@@ -1,6 +1,6 @@
 -- Pinning and reducing the path sum of first list and inverse second: document 01, "Reducing it".
 -- Assumes nothing.
-use Prim.Native.Nat.{ℕ, zero, suc}
+use Prim.Native.Nat.{ℕ, zero, suc, _+_, _*_}
 use mathlib.Core.Bool.{Bool, true, false, not, _&&_}
 use mathlib.Core.Option.{Option, none, some}
 use lib.ListN.{length}
@@ -32,6 +32,10 @@ addTurn c = counts (c .pins) (c .sums) (suc (c .turns)) (c .joins)
 
 unfoldable pub addJoin : Counts → Counts
 addJoin c = counts (c .pins) (c .sums) (c .turns) (suc (c .joins))
+
+-- the power of √2 that the steps have split off: 2 for a sum or a join, 1 for a turn
+abbrev pub factor : Counts → ℕ
+factor c = 2 * c .sums + c .turns + 2 * c .joins
 
 -- where the reduction ends: the sum and the counts that it has reached, and, where it is blocked, the parity that cannot be 0
 pub record End : Type 0 where

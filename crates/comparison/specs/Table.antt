@@ -1,19 +1,11 @@
--- Pairs of gate lists with the result of their comparison, proved by computation: document 01's rows marked P, and rows that
--- tell the choices of its steps apart.
+-- Pairs of gate lists with the result of their comparison: document 01's rows marked P, and rows that tell the choices of its steps
+-- apart. proofs/Anchors.antt proves them by computation.
 -- Assumes nothing.
-use mathlib.Core.Path.{_≡_, refl}
+use mathlib.Core.Path.{_≡_}
 use Prim.Native.Nat.{ℕ}
 use mathlib.Core.List.{List, [], _∷_}
-use mathlib.Core.Bool.{xor}
-use Rattle.gate_list.specs.Gate.{Gate, one, two, X, Z, S, S†, T, T†, H, CX, CZ, SWAP, inverseKind, inverseGate, inverseList}
-use Rattle.amplitude.specs.Bits.{bit}
-use Rattle.phase_sum.specs.Sets.{_△_, xorUpTo, parityUpTo, parity, firstIn, without, from}
-use Rattle.phase_sum.specs.Parity.{_⊻_, complement, rest, replaceIn}
-use Rattle.phase_sum.specs.Phase.{sumAt, phaseAt, keep, merge, addTerm, addConstant, addPhase, rebuild, inOdd}
-use Rattle.phase_sum.specs.Building.{input, initial, setWire, withPhase, hadamard, gate, gatesFrom, build}
-use Rattle.phase_sum.specs.Stepping.{replace, firstReady, coeffs, outOf, oddHalves, takeOut, turned, kindOf}
-use Rattle.comparison.specs.Reduction.{addPin, addSum, addTurn, addJoin, pinFrom, stepWith, reduceFrom, reduceEnd}
-use Rattle.comparison.specs.Verdict.{weight, firstDiffering, Verdict, equal, different, undecided, Result, blockedInput, searched, judge, compare}
+use Rattle.gate_list.specs.Gate.{Gate, one, two, X, Z, S, S†, T, T†, H, CX, CZ, SWAP}
+use Rattle.comparison.specs.Verdict.{Verdict, equal, different, undecided, Result, compare}
 
 -- two lists on n qubits, and what their comparison gives
 pub record Row : Type 0 where
@@ -59,15 +51,25 @@ rows =
     ∷ row 1 (one H 0 ∷ one T 0 ∷ one H 0 ∷ []) [] (says undecided 0 0 1 0 0 0 1)
     ∷ []
 
--- the comparison gives document 01's results
-pub p-rows : AllRight rows
-unfolding xor inverseKind inverseGate inverseList bit _△_ xorUpTo parityUpTo parity firstIn without from _⊻_ complement rest replaceIn
-    sumAt phaseAt keep merge addTerm addConstant addPhase rebuild inOdd input initial setWire withPhase hadamard gate gatesFrom build
-    replace firstReady coeffs outOf oddHalves takeOut turned kindOf addPin addSum addTurn addJoin pinFrom stepWith reduceFrom
-    reduceEnd weight firstDiffering blockedInput searched judge compare
-p-rows = (refl, (refl, (refl, (refl, (refl, (refl, (refl, (refl, (refl, (refl, tt))))))))))
+-- Z on qubit 2 where qubits 0 and 1 are 1
+abbrev pub doublyControlledZ : List Gate
+doublyControlledZ =
+    one T 0
+    ∷ one T 1
+    ∷ one T 2
+    ∷ two CX 0 1
+    ∷ one T† 1
+    ∷ two CX 0 1
+    ∷ two CX 1 2
+    ∷ one T† 2
+    ∷ two CX 0 2
+    ∷ one T 2
+    ∷ two CX 1 2
+    ∷ one T† 2
+    ∷ two CX 0 2
+    ∷ []
 
--- rows that show which of several comes first, and what is done before what
+-- rows that show which of several comes first, what is done before what, and what a quick hand would miss
 abbrev pub choices : List Row
 choices =
     -- two variables are ready: the lowest
@@ -84,12 +86,12 @@ choices =
     ∷ row 3 (one H 1 ∷ two CX 1 2 ∷ []) [] (says different 2 2 1 0 0 0 0)
     -- a variable is ready once T and its inverse are merged
     ∷ row 1 (one H 0 ∷ one T 0 ∷ one T† 0 ∷ one H 0 ∷ []) [] (says equal 0 0 1 1 0 0 0)
+    -- pinning is blocked at qubits 0 and 2: it goes from qubit 0 upwards
+    ∷ row 4 (two SWAP 0 1 ∷ two SWAP 2 3 ∷ []) [] (says different 1 1 0 0 0 0 0)
+    -- T on a complemented parity turns back: with T on the parity itself only a common turn is left
+    ∷ row 1 (one X 0 ∷ one T 0 ∷ one X 0 ∷ one T 0 ∷ []) [] (says equal 0 0 0 0 0 0 0)
+    -- a doubly controlled Z differs from nothing only at the input of weight 3
+    ∷ row 3 doublyControlledZ [] (says different 0 7 0 0 0 0 0)
+    -- S in the second list is undone by its inverse
+    ∷ row 1 (one S 0 ∷ []) (one S 0 ∷ []) (says equal 0 0 0 0 0 0 0)
     ∷ []
-
--- and makes these choices
-pub choice-rows : AllRight choices
-unfolding xor inverseKind inverseGate inverseList bit _△_ xorUpTo parityUpTo parity firstIn without from _⊻_ rest replaceIn sumAt
-    phaseAt keep merge addTerm addConstant addPhase rebuild inOdd input initial setWire withPhase hadamard gate gatesFrom build
-    replace firstReady coeffs outOf oddHalves takeOut turned kindOf addPin addSum addTurn addJoin pinFrom stepWith reduceFrom
-    reduceEnd weight firstDiffering blockedInput searched judge compare
-choice-rows = (refl, (refl, (refl, (refl, (refl, (refl, (refl, tt)))))))

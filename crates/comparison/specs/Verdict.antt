@@ -12,7 +12,7 @@ use Rattle.phase_sum.specs.Sets.{firstIn, from}
 use Rattle.phase_sum.specs.Parity.{Parity}
 use Rattle.phase_sum.specs.Phase.{Phase, phaseAt}
 use Rattle.phase_sum.specs.Building.{build}
-use Rattle.comparison.specs.Reduction.{End, reduced}
+use Rattle.comparison.specs.Reduction.{End, pinned, reduceEnd}
 
 -- the inputs below 2^n of weight k, with zeros at the scratch qubits, lower numbers first
 unfoldable pub weight : ℕ → ℕ → ℕ → List ℕ
@@ -87,9 +87,13 @@ judge scratch n e =
 abbrev pub joined : List Gate → List Gate → List Gate
 joined first second = first ++ inverseList second
 
+-- where pinning the sum of a pair ends
+abbrev pub pinnedOf : ℕ → ℕ → List Gate → List Gate → End
+pinnedOf scratch n first second = pinned scratch n (build scratch n (joined first second))
+
 -- where the reduction of a pair ends
 abbrev pub endOf : ℕ → ℕ → List Gate → List Gate → End
-endOf scratch n first second = reduced scratch n (build scratch n (joined first second))
+endOf scratch n first second = reduceEnd (pinnedOf scratch n first second)
 
 -- the comparison of two lists on n qubits
 unfoldable pub compare : ℕ → ℕ → List Gate → List Gate → Result

@@ -1,4 +1,5 @@
--- Lemmas by topic, and the proofs of specs/Promises.antt in Theorems.
+-- Worked cases that anchor the definitions, lemmas by topic, and the proofs of specs/Promises.antt in Theorems.
+pub mod Anchors
 pub mod GateLaws
 pub mod Rows
 pub mod Encoding

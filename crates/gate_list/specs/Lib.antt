@@ -1,6 +1,5 @@
 -- What a reader of the record layer must believe. In order: the format's numbers, gates, the refusal table's rows, reading a
--- record, what the answers' cases mean in document 01's numbers, writing a record, the report, what all this promises,
--- and worked cases.
+-- record, what the answers' cases mean in document 01's numbers, writing a record, the report, and what all this promises.
 -- Inner is of the private functions alone.
 pub mod Format
 pub mod Gate
@@ -10,5 +9,4 @@ pub mod Answer
 pub mod Writing
 pub mod Report
 pub mod Promises
-pub mod Cases
 pub mod Inner

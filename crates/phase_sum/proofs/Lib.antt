@@ -1,5 +1,6 @@
--- Laws of path sums. In order: sets, variables, parities, the phase polynomial and its one canonical form; sums over path
+-- Laws of path sums. In order: worked cases; sets, variables, parities, the phase polynomial and its one canonical form; sums over path
 -- variables, and the built sum's amplitude; replacing, taking out and the steps; what every sum on the way keeps.
+pub mod Anchors
 pub mod SetLaws
 pub mod VariableLaws
 pub mod ParityLaws

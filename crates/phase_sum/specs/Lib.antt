@@ -7,4 +7,3 @@ pub mod Building
 pub mod Stepping
 pub mod Meaning
 pub mod Room
-pub mod Cases

@@ -10,58 +10,58 @@ use Rattle.gate_list.specs.Gate.{one, two, S, S†, T†, T, H, CX, gate
 use Rattle.gate_list.specs.Row.{Fault, first}
 use Rattle.gate_list.specs.Reading.{raws, allGateRows, recordRows, accepted, refused, read}
 
-abbrev fault : ℕ → Fault
+abbrev pub fault : ℕ → Fault
 fault k = record { number = k; gate = none }
 
-abbrev faultAt : ℕ → ℕ → Fault
+abbrev pub faultAt : ℕ → ℕ → Fault
 faultAt i k = record { number = k; gate = some i }
 
 -- four bytes with another mark: too short comes before the mark
-short-before-mark : read (0 ∷ 0 ∷ 1 ∷ 0 ∷ []) ≡ refused (fault 1)
+pub short-before-mark : read (0 ∷ 0 ∷ 1 ∷ 0 ∷ []) ≡ refused (fault 1)
 unfolding read recordRows first allGateRows raws
 short-before-mark = refl
 
 -- five bytes, the first two of another mark
-other-mark : read (0x51 ∷ 0x56 ∷ 0 ∷ 0 ∷ 0 ∷ []) ≡ refused (fault 2)
+pub other-mark : read (0x51 ∷ 0x56 ∷ 0 ∷ 0 ∷ 0 ∷ []) ≡ refused (fault 2)
 unfolding read recordRows first allGateRows raws
 other-mark = refl
 
 -- five bytes with g = 513: the count comes before the body
-count-before-body : read (listMark ++ 1 ∷ 1 ∷ 2 ∷ []) ≡ refused (fault 4)
+pub count-before-body : read (listMark ++ 1 ∷ 1 ∷ 2 ∷ []) ≡ refused (fault 4)
 unfolding read recordRows first allGateRows raws
 count-before-body = refl
 
 -- a short body whose first gate is bad: the body comes before the gates
-body-before-gates : read (listMark ++ 1 ∷ 2 ∷ 0 ∷ 11 ∷ 0 ∷ 255 ∷ []) ≡ refused (fault 1)
+pub body-before-gates : read (listMark ++ 1 ∷ 2 ∷ 0 ∷ 11 ∷ 0 ∷ 255 ∷ []) ≡ refused (fault 1)
 unfolding read recordRows first allGateRows raws
 body-before-gates = refl
 
 -- kind 11 is 5 whatever a and b are
-kind-first : read (listMark ++ 2 ∷ 1 ∷ 0 ∷ 11 ∷ 9 ∷ 9 ∷ []) ≡ refused (faultAt 0 5)
+pub kind-first : read (listMark ++ 2 ∷ 1 ∷ 0 ∷ 11 ∷ 9 ∷ 9 ∷ []) ≡ refused (faultAt 0 5)
 unfolding read recordRows first allGateRows raws
 kind-first = refl
 
 -- a one-qubit gate with bad b and bad a is 7
-seven-before-six : read (listMark ++ 2 ∷ 1 ∷ 0 ∷ 3 ∷ 2 ∷ 1 ∷ []) ≡ refused (faultAt 0 7)
+pub seven-before-six : read (listMark ++ 2 ∷ 1 ∷ 0 ∷ 3 ∷ 2 ∷ 1 ∷ []) ≡ refused (faultAt 0 7)
 unfolding read recordRows first allGateRows raws
 seven-before-six = refl
 
 -- a two-qubit gate with b = 255 is 6, and so is every two-qubit gate on one qubit
-no-second-qubit : read (listMark ++ 1 ∷ 1 ∷ 0 ∷ 8 ∷ 0 ∷ 255 ∷ []) ≡ refused (faultAt 0 6)
+pub no-second-qubit : read (listMark ++ 1 ∷ 1 ∷ 0 ∷ 8 ∷ 0 ∷ 255 ∷ []) ≡ refused (faultAt 0 6)
 unfolding read recordRows first allGateRows raws
 no-second-qubit = refl
 
 -- the first bad gate counts, with its index
-second-gate-bad : read (listMark ++ 2 ∷ 3 ∷ 0 ∷ 0 ∷ 0 ∷ 255 ∷ 8 ∷ 1 ∷ 1 ∷ 11 ∷ 0 ∷ 0 ∷ []) ≡ refused (faultAt 1 6)
+pub second-gate-bad : read (listMark ++ 2 ∷ 3 ∷ 0 ∷ 0 ∷ 0 ∷ 255 ∷ 8 ∷ 1 ∷ 1 ∷ 11 ∷ 0 ∷ 0 ∷ []) ≡ refused (faultAt 1 6)
 unfolding read recordRows first allGateRows raws
 second-gate-bad = refl
 
 -- H on 0, then CX from 0 to 1, and a byte behind the record
-two-gates : read (listMark ++ 2 ∷ 2 ∷ 0 ∷ 7 ∷ 0 ∷ 255 ∷ 8 ∷ 0 ∷ 1 ∷ 99 ∷ []) ≡ accepted 2 (one H 0 ∷ two CX 0 1 ∷ [])
+pub two-gates : read (listMark ++ 2 ∷ 2 ∷ 0 ∷ 7 ∷ 0 ∷ 255 ∷ 8 ∷ 0 ∷ 1 ∷ 99 ∷ []) ≡ accepted 2 (one H 0 ∷ two CX 0 1 ∷ [])
 unfolding read recordRows first allGateRows raws gateOf
 two-gates = refl
 
 -- S on 0, T on 1, CX from 0 to 1: backwards, S and T exchanged for their inverses
-inverse-of-three : inverseList (one S 0 ∷ one T 1 ∷ two CX 0 1 ∷ []) ≡ two CX 0 1 ∷ one T† 1 ∷ one S† 0 ∷ []
+pub inverse-of-three : inverseList (one S 0 ∷ one T 1 ∷ two CX 0 1 ∷ []) ≡ two CX 0 1 ∷ one T† 1 ∷ one S† 0 ∷ []
 unfolding inverseList inverseGate inverseKind
 inverse-of-three = refl
