@@ -4,7 +4,7 @@ use mathlib.Core.Path.{_≡_, refl}
 use mathlib.Core.Bool.{xor}
 use mathlib.Core.List.{[], _∷_}
 use Rattle.gate_list.specs.Gate.{one, two, X, Y, Z, T, H, CX, SWAP}
-use Rattle.amplitude.specs.Number.{whole, 0ω, 1ω, _⊕_, neg, mulω, ω^, mul√2, √2^}
+use Rattle.amplitude.specs.Number.{whole, 0ω, 1ω, _+ω_, neg, mulω, ω^, mul√2, √2^}
 use Rattle.amplitude.specs.Bits.{bit, put}
 use Rattle.amplitude.specs.Matrix.{matrix, entry, times}
 use Rattle.amplitude.specs.Circuit.{basis, apply, run, column}
@@ -15,66 +15,66 @@ unfolding ω^ mulω 1ω whole neg
 fourth-power = refl
 
 -- √2 twice is 2
-pub root-of-two : √2^ 2 1ω ≡ 1ω ⊕ 1ω
-unfolding √2^ mul√2 ω^ mulω 1ω whole neg _⊕_
+pub root-of-two : √2^ 2 1ω ≡ 1ω +ω 1ω
+unfolding √2^ mul√2 ω^ mulω 1ω whole neg _+ω_
 root-of-two = refl
 
 -- T multiplies input 1 by ω
 pub t-turns : column (one T 0 ∷ []) 1 1 ≡ ω^ 1 1ω
-unfolding whole 0ω 1ω _⊕_ neg mulω ω^ bit put matrix entry times basis apply run column
+unfolding whole 0ω 1ω _+ω_ neg mulω ω^ bit put matrix entry times basis apply run column
 t-turns = refl
 
 -- H without its factor sends 1 to 0 minus 1
 pub h-of-one : column (one H 0 ∷ []) 1 1 ≡ neg 1ω
-unfolding whole 0ω 1ω _⊕_ neg mulω ω^ bit put matrix entry times basis apply run column
+unfolding whole 0ω 1ω _+ω_ neg mulω ω^ bit put matrix entry times basis apply run column
 h-of-one = refl
 
 -- X sends 0 to 1
 pub x-flips : column (one X 0 ∷ []) 0 1 ≡ 1ω
-unfolding whole 0ω 1ω _⊕_ neg mulω ω^ bit put matrix entry times basis apply run column
+unfolding whole 0ω 1ω _+ω_ neg mulω ω^ bit put matrix entry times basis apply run column
 x-flips = refl
 
 -- Z negates input 1
 pub z-signs : column (one Z 0 ∷ []) 1 1 ≡ neg 1ω
-unfolding whole 0ω 1ω _⊕_ neg mulω ω^ bit put matrix entry times basis apply run column
+unfolding whole 0ω 1ω _+ω_ neg mulω ω^ bit put matrix entry times basis apply run column
 z-signs = refl
 
 -- qubit 1 is the bit of worth 2: X there sends 0 to 2
 pub x-qubit : column (one X 1 ∷ []) 0 2 ≡ 1ω
-unfolding whole 0ω 1ω _⊕_ neg mulω ω^ bit put matrix entry times basis apply run column
+unfolding whole 0ω 1ω _+ω_ neg mulω ω^ bit put matrix entry times basis apply run column
 x-qubit = refl
 
 -- CX flips its second qubit where its first is 1
 pub cx-target : column (two CX 0 1 ∷ []) 1 3 ≡ 1ω
-unfolding whole 0ω 1ω _⊕_ neg mulω ω^ bit put matrix entry times basis apply run column xor
+unfolding whole 0ω 1ω _+ω_ neg mulω ω^ bit put matrix entry times basis apply run column xor
 cx-target = refl
 
 -- and does nothing where its first is 0
 pub cx-control : column (two CX 0 1 ∷ []) 2 2 ≡ 1ω
-unfolding whole 0ω 1ω _⊕_ neg mulω ω^ bit put matrix entry times basis apply run column xor
+unfolding whole 0ω 1ω _+ω_ neg mulω ω^ bit put matrix entry times basis apply run column xor
 cx-control = refl
 
 -- SWAP sends 1 to 2
 pub swap-bits : column (two SWAP 0 1 ∷ []) 1 2 ≡ 1ω
-unfolding whole 0ω 1ω _⊕_ neg mulω ω^ bit put matrix entry times basis apply run column
+unfolding whole 0ω 1ω _+ω_ neg mulω ω^ bit put matrix entry times basis apply run column
 swap-bits = refl
 
 -- a list runs from its first gate: T meets the 1 that X has made
 pub x-first : column (one X 0 ∷ one T 0 ∷ []) 0 1 ≡ ω^ 1 1ω
-unfolding whole 0ω 1ω _⊕_ neg mulω ω^ bit put matrix entry times basis apply run column
+unfolding whole 0ω 1ω _+ω_ neg mulω ω^ bit put matrix entry times basis apply run column
 x-first = refl
 
 -- and meets the 0 before it
 pub x-last : column (one T 0 ∷ one X 0 ∷ []) 0 1 ≡ 1ω
-unfolding whole 0ω 1ω _⊕_ neg mulω ω^ bit put matrix entry times basis apply run column
+unfolding whole 0ω 1ω _+ω_ neg mulω ω^ bit put matrix entry times basis apply run column
 x-last = refl
 
 -- Y at input 0 gives i
 pub y-of-zero : column (one Y 0 ∷ []) 0 1 ≡ ω^ 2 1ω
-unfolding whole 0ω 1ω _⊕_ neg mulω ω^ bit put matrix entry times basis apply run column
+unfolding whole 0ω 1ω _+ω_ neg mulω ω^ bit put matrix entry times basis apply run column
 y-of-zero = refl
 
 -- and at input 1 gives −i
 pub y-of-one : column (one Y 0 ∷ []) 1 0 ≡ ω^ 6 1ω
-unfolding whole 0ω 1ω _⊕_ neg mulω ω^ bit put matrix entry times basis apply run column
+unfolding whole 0ω 1ω _+ω_ neg mulω ω^ bit put matrix entry times basis apply run column
 y-of-one = refl

@@ -11,7 +11,7 @@ use lib.IntN.{ℤ, pos, negsuc}
 use borrow.Author.Tests.{eqb-true}
 use borrow.Author.Count.{below-more}
 use Rattle.gate_list.specs.Gate.{Gate, one, two, X, Y, Z, S, S†, T, T†, H, CX, CZ, SWAP, oneQubitKind}
-use Rattle.amplitude.specs.Number.{Zω, whole, 0ω, 1ω, _⊕_, neg, mulω, ω^, mul√2, √2^}
+use Rattle.amplitude.specs.Number.{Zω, whole, 0ω, 1ω, _+ω_, neg, mulω, ω^, mul√2, √2^}
 use Rattle.amplitude.specs.Bits.{bit, put}
 use Rattle.amplitude.specs.Matrix.{matrix, entry, times}
 use Rattle.amplitude.specs.Circuit.{basis, apply, run, column, tally, hGates, Carries}
@@ -62,7 +62,7 @@ below-true (suc m) p h v l =
 
 -- whether ω^j carries the first list to the second at input v and output w
 fits : ℕ → List Gate → List Gate → ℕ → ℕ → Bool
-unfolding eqω whole 0ω 1ω _⊕_ neg mulω mul√2 ω^ √2^ bit put matrix entry times basis apply run column tally oneQubitKind xor
+unfolding eqω whole 0ω 1ω _+ω_ neg mulω mul√2 ω^ √2^ bit put matrix entry times basis apply run column tally oneQubitKind xor
 fits j first second v w = eqω (ω^ j (√2^ (hGates second) (column first v w))) (√2^ (hGates first) (column second v w))
 
 -- the same at every input and output of n qubits

@@ -12,7 +12,7 @@ use Rattle.amplitude.specs.Number.{Zω, neg, ω^, √2^}
 use Rattle.amplitude.specs.Bits.{bit, put}
 use Rattle.amplitude.specs.Matrix.{matrix, entry, times}
 use Rattle.amplitude.specs.Circuit.{State, apply, run, tally, isH, hGates}
-use Rattle.amplitude.proofs.NumberLaws.{⊕-idl, ⊕-idr, ⊕-invr, ⊕-swap, neg-⊕, neg-neg, ω^-add, ω^-four, ω^-eight, mul√2-twice, √2^-add}
+use Rattle.amplitude.proofs.NumberLaws.{+ω-idl, +ω-idr, +ω-invr, +ω-swap, neg-+ω, neg-neg, ω^-add, ω^-four, ω^-eight, mul√2-twice, √2^-add}
 use Rattle.amplitude.proofs.XorLaws.{xor-cancel}
 use Rattle.amplitude.proofs.BitLaws.{bit-put-same, bit-put-other, put-put-same, put-put-other, put-bit}
 use Rattle.amplitude.proofs.Linear.{row, ω^-zero, apply-one, apply-√2^, run-append, hGates-inverse}
@@ -26,7 +26,7 @@ by-bit q ψ w = go (bit q w) ∙ ap ψ (put-bit q w)
     go false = refl
 
 -- sums with 0, and powers of ω that meet
-ruleset turns = (⊕-idl, ⊕-idr, ω^-zero, ← ω^-add, ω^-eight)
+ruleset turns = (+ω-idl, +ω-idr, ω^-zero, ← ω^-add, ω^-eight)
 
 -- the inverse kind's matrix times the kind's is 1, and 2 for H
 pub kind-undo : (u : OneQubit) (q : ℕ) (b : Bool) (x y : Zω) →
@@ -39,8 +39,8 @@ kind-undo S q b x y = elim b [ false ↦ simp turns | true ↦ simp turns ]
 kind-undo S† q b x y = elim b [ false ↦ simp turns | true ↦ simp turns ]
 kind-undo T q b x y = elim b [ false ↦ simp turns | true ↦ simp turns ]
 kind-undo T† q b x y = elim b [ false ↦ simp turns | true ↦ simp turns ]
-kind-undo H q false x y = simp (ω^-zero, ω^-four, mul√2-twice) (⊕-swap x y x (neg y) ∙ simp (⊕-invr, ⊕-idr))
-kind-undo H q true x y = simp (ω^-zero, ω^-four, neg-⊕, neg-neg, mul√2-twice) (⊕-swap x y (neg x) y ∙ simp (⊕-invr, ⊕-idl))
+kind-undo H q false x y = simp (ω^-zero, ω^-four, mul√2-twice) (+ω-swap x y x (neg y) ∙ simp (+ω-invr, +ω-idr))
+kind-undo H q true x y = simp (ω^-zero, ω^-four, neg-+ω, neg-neg, mul√2-twice) (+ω-swap x y (neg x) y ∙ simp (+ω-invr, +ω-idl))
 
 -- CX moves an output back where it was when it is applied twice
 pub cx-cx : (a b w : ℕ) → a ≢ b →

@@ -8,32 +8,32 @@ use Prim.Native.Nat.{ℕ, _+_}
 use native.Mathlib.Omega.{arith}
 use Rattle.gate_list.specs.Gate.{OneQubit, X, Y, Z, S, S†, T, T†, H, Gate, one, two, CX, CZ, SWAP, oneQubitKind, inverseKind, inverseGate, inverseList}
 use Rattle.gate_list.proofs.GateLaws.{inverse-cons}
-use Rattle.amplitude.specs.Number.{Zω, 0ω, _⊕_, ω^, √2^}
+use Rattle.amplitude.specs.Number.{Zω, 0ω, _+ω_, ω^, √2^}
 use Rattle.amplitude.specs.Bits.{bit, put}
 use Rattle.amplitude.specs.Matrix.{Entry, O, ω, Matrix, matrix, entry, times}
 use Rattle.amplitude.specs.Circuit.{State, apply, run, tally, isH, isT, hGates, tGates}
 use Rattle.amplitude.proofs.BitLaws.{bit-put-same, put-put-same}
-use Rattle.amplitude.proofs.NumberLaws.{⊕-idl, ⊕-swap, ω^-⊕, ω^-0ω, ω^-comm, √2^-⊕, √2^-0ω, √2^-ω^}
+use Rattle.amplitude.proofs.NumberLaws.{+ω-idl, +ω-swap, ω^-+ω, ω^-0ω, ω^-comm, √2^-+ω, √2^-0ω, √2^-ω^}
 
 -- a map of numbers that keeps 0, sums and turns by ω
 pub record Linear (f : Zω → Zω) : Type 0 where
   pub zero : f 0ω ≡ 0ω
-  pub sum : (x y : Zω) → f (x ⊕ y) ≡ f x ⊕ f y
+  pub sum : (x y : Zω) → f (x +ω y) ≡ f x +ω f y
   pub turn : (k : ℕ) (x : Zω) → f (ω^ k x) ≡ ω^ k (f x)
 
 -- multiplication by a power of ω is linear
 pub linear-ω^ : (k : ℕ) → Linear (ω^ k)
-linear-ω^ k = record { zero = ω^-0ω k; sum = ω^-⊕ k; turn = ω^-comm k }
+linear-ω^ k = record { zero = ω^-0ω k; sum = ω^-+ω k; turn = ω^-comm k }
 
 -- multiplication by a power of √2 is linear
 pub linear-√2^ : (k : ℕ) → Linear (√2^ k)
-linear-√2^ k = record { zero = √2^-0ω k; sum = √2^-⊕ k; turn = √2^-ω^ k }
+linear-√2^ k = record { zero = √2^-0ω k; sum = √2^-+ω k; turn = √2^-ω^ k }
 
 -- an entry times a sum
-pub times-⊕ : (e : Entry) (x y : Zω) → times e (x ⊕ y) ≡ times e x ⊕ times e y
+pub times-+ω : (e : Entry) (x y : Zω) → times e (x +ω y) ≡ times e x +ω times e y
 unfolding times
-times-⊕ O x y = sym (⊕-idl 0ω)
-times-⊕ (ω k) x y = ω^-⊕ k x y
+times-+ω O x y = sym (+ω-idl 0ω)
+times-+ω (ω k) x y = ω^-+ω k x y
 
 -- an entry times 0
 pub times-0ω : (e : Entry) → times e 0ω ≡ 0ω
@@ -54,7 +54,7 @@ unfolding ω^
 
 -- the row of the output's bit, applied to the numbers at the two values of the input's bit
 abbrev pub row : Matrix → Bool → Zω → Zω → Zω
-row m b x y = times (entry m b false) x ⊕ times (entry m b true) y
+row m b x y = times (entry m b false) x +ω times (entry m b true) y
 
 -- a one-qubit gate at the output whose bit q is b: row b on the numbers at both values of bit q
 pub apply-one : (u : OneQubit) (q : ℕ) (ψ : State) (b : Bool) (w : ℕ) →
@@ -63,16 +63,16 @@ unfolding apply
 apply-one u q ψ b w = simp (bit-put-same, put-put-same)
 
 -- a gate takes a sum of states to the sum of its results
-pub apply-⊕ : (g : Gate) (φ ψ : State) → apply g (λ w. φ w ⊕ ψ w) ≡ (λ w. apply g φ w ⊕ apply g ψ w)
+pub apply-+ω : (g : Gate) (φ ψ : State) → apply g (λ w. φ w +ω ψ w) ≡ (λ w. apply g φ w +ω apply g ψ w)
 unfolding apply
-apply-⊕ (one u q) φ ψ = fun-ext (λ w. simp times-⊕ (⊕-swap _ _ _ _))
-apply-⊕ (two CX a b) φ ψ = refl
-apply-⊕ (two CZ a b) φ ψ = fun-ext (λ w. go (bit a w && bit b w) (φ w) (ψ w))
+apply-+ω (one u q) φ ψ = fun-ext (λ w. simp times-+ω (+ω-swap _ _ _ _))
+apply-+ω (two CX a b) φ ψ = refl
+apply-+ω (two CZ a b) φ ψ = fun-ext (λ w. go (bit a w && bit b w) (φ w) (ψ w))
   where
-    go : (t : Bool) (x y : Zω) → cond t (ω^ 4 (x ⊕ y)) (x ⊕ y) ≡ cond t (ω^ 4 x) x ⊕ cond t (ω^ 4 y) y
-    go true x y = ω^-⊕ 4 x y
+    go : (t : Bool) (x y : Zω) → cond t (ω^ 4 (x +ω y)) (x +ω y) ≡ cond t (ω^ 4 x) x +ω cond t (ω^ 4 y) y
+    go true x y = ω^-+ω 4 x y
     go false x y = refl
-apply-⊕ (two SWAP a b) φ ψ = refl
+apply-+ω (two SWAP a b) φ ψ = refl
 
 -- a gate commutes with a linear map
 pub apply-linear : (f : Zω → Zω) → Linear f → (g : Gate) (ψ : State) → apply g (λ w. f (ψ w)) ≡ (λ w. f (apply g ψ w))
@@ -91,10 +91,10 @@ pub apply-√2^ : (k : ℕ) (g : Gate) (ψ : State) → apply g (λ w. √2^ k (
 apply-√2^ k g ψ = apply-linear (√2^ k) (linear-√2^ k) g ψ
 
 -- a list takes a sum of states to the sum of its results
-pub run-⊕ : (gs : List Gate) (φ ψ : State) → run gs (λ w. φ w ⊕ ψ w) ≡ (λ w. run gs φ w ⊕ run gs ψ w)
+pub run-+ω : (gs : List Gate) (φ ψ : State) → run gs (λ w. φ w +ω ψ w) ≡ (λ w. run gs φ w +ω run gs ψ w)
 unfolding run
-run-⊕ [] φ ψ = refl
-run-⊕ (g ∷ gs) φ ψ = ap (run gs) (apply-⊕ g φ ψ) ∙ run-⊕ gs (apply g φ) (apply g ψ)
+run-+ω [] φ ψ = refl
+run-+ω (g ∷ gs) φ ψ = ap (run gs) (apply-+ω g φ ψ) ∙ run-+ω gs (apply g φ) (apply g ψ)
 
 -- a list commutes with a linear map
 pub run-linear : (f : Zω → Zω) → Linear f → (gs : List Gate) (ψ : State) → run gs (λ w. f (ψ w)) ≡ (λ w. f (run gs ψ w))

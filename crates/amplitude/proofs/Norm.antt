@@ -9,7 +9,7 @@ use native.Mathlib.Omega.{arith}
 use lib.Dec.{ltb}
 use lib.IntN.{ℤ, pos, negsuc, negℤ, natAbs, subℕ, _+ℤ_, _-ℤ_, +ℤ-comm, negℤ-+ℤ, negℤ-negℤ}
 use borrow.Author.Tests.{ltb-true, ltb-false}
-use Rattle.amplitude.specs.Number.{Zω, whole, 0ω, 1ω, _⊕_, neg, mulω, ω^, mul√2, √2^}
+use Rattle.amplitude.specs.Number.{Zω, whole, 0ω, 1ω, _+ω_, neg, mulω, ω^, mul√2, √2^}
 use Rattle.amplitude.proofs.NumberLaws.{zω≡}
 
 -- the square of a whole number
@@ -88,7 +88,7 @@ norm-ω^ (suc k) z = norm-mulω (ω^ k z) ∙ norm-ω^ k z
 
 -- √2 doubles the size
 pub norm-mul√2 : (z : Zω) → norm (mul√2 z) ≡ 2 * norm z
-unfolding norm mul√2 ω^ mulω neg _⊕_
+unfolding norm mul√2 ω^ mulω neg _+ω_
 norm-mul√2 z =
     simp (negℤ-negℤ, +ℤ-comm (negℤ (z .d)) (z .b), +ℤ-comm (z .a) (z .c))
     (omega (arith, parallelogram (z .b) (z .d), parallelogram (z .c) (z .a)))
@@ -103,8 +103,8 @@ norm-√2^ (suc k) z =
     ∙ sym (ap (λ m. m * norm z) (pow-succ' 2 k) ∙ mul-assoc 2 (2 ^ k) (norm z))
 
 -- the parallelogram law
-pub norm-parallelogram : (x y : Zω) → norm (x ⊕ y) + norm (x ⊕ neg y) ≡ 2 * norm x + 2 * norm y
-unfolding norm _⊕_ neg
+pub norm-parallelogram : (x y : Zω) → norm (x +ω y) + norm (x +ω neg y) ≡ 2 * norm x + 2 * norm y
+unfolding norm _+ω_ neg
 norm-parallelogram x y =
     omega (arith, parallelogram (x .a) (y .a), parallelogram (x .b) (y .b), parallelogram (x .c) (y .c), parallelogram (x .d) (y .d))
 

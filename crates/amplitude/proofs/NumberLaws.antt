@@ -7,51 +7,51 @@ use native.Mathlib.Nat.{zero-add, add-comm, suc-add}
 use native.Mathlib.Decide.{ℕ-discrete}
 use native.Mathlib.Omega.{arith}
 use lib.IntN.{ℤ, pos, negsuc, natAbs, pos-ne-negsuc, _+ℤ_, +ℤ-comm, +ℤ-assoc, +ℤ-idl, +ℤ-invr, negℤ-+ℤ, negℤ-negℤ}
-use Rattle.amplitude.specs.Number.{Zω, whole, 0ω, _⊕_, neg, mulω, ω^, mul√2, √2^}
+use Rattle.amplitude.specs.Number.{Zω, whole, 0ω, _+ω_, neg, mulω, ω^, mul√2, √2^}
 
 -- numbers are equal where their four coefficients are
 pub zω≡ : {x y : Zω} → x .a ≡ y .a → x .b ≡ y .b → x .c ≡ y .c → x .d ≡ y .d → x ≡ y
 zω≡ p q r s = λ i. record { a = p i; b = q i; c = r i; d = s i }
 
 -- addition commutes
-pub ⊕-comm : (x y : Zω) → x ⊕ y ≡ y ⊕ x
-unfolding _⊕_
-⊕-comm x y = zω≡ (+ℤ-comm (x .a) (y .a)) (+ℤ-comm (x .b) (y .b)) (+ℤ-comm (x .c) (y .c)) (+ℤ-comm (x .d) (y .d))
+pub +ω-comm : (x y : Zω) → x +ω y ≡ y +ω x
+unfolding _+ω_
++ω-comm x y = zω≡ (+ℤ-comm (x .a) (y .a)) (+ℤ-comm (x .b) (y .b)) (+ℤ-comm (x .c) (y .c)) (+ℤ-comm (x .d) (y .d))
 
 -- addition associates
-pub ⊕-assoc : (x y z : Zω) → (x ⊕ y) ⊕ z ≡ x ⊕ (y ⊕ z)
-unfolding _⊕_
-⊕-assoc x y z = zω≡ (search +ℤ-assoc) (search +ℤ-assoc) (search +ℤ-assoc) (search +ℤ-assoc)
+pub +ω-assoc : (x y z : Zω) → (x +ω y) +ω z ≡ x +ω (y +ω z)
+unfolding _+ω_
++ω-assoc x y z = zω≡ (search +ℤ-assoc) (search +ℤ-assoc) (search +ℤ-assoc) (search +ℤ-assoc)
 
 -- 0 on the left of a sum
-pub ⊕-idl : (x : Zω) → 0ω ⊕ x ≡ x
-unfolding _⊕_ 0ω whole
-⊕-idl x = zω≡ (+ℤ-idl (x .a)) (+ℤ-idl (x .b)) (+ℤ-idl (x .c)) (+ℤ-idl (x .d))
+pub +ω-idl : (x : Zω) → 0ω +ω x ≡ x
+unfolding _+ω_ 0ω whole
++ω-idl x = zω≡ (+ℤ-idl (x .a)) (+ℤ-idl (x .b)) (+ℤ-idl (x .c)) (+ℤ-idl (x .d))
 
 -- 0 on the right of a sum
-pub ⊕-idr : (x : Zω) → x ⊕ 0ω ≡ x
-⊕-idr x = ⊕-comm x 0ω ∙ ⊕-idl x
+pub +ω-idr : (x : Zω) → x +ω 0ω ≡ x
++ω-idr x = +ω-comm x 0ω ∙ +ω-idl x
 
 -- a number and its negative cancel
-pub ⊕-invr : (x : Zω) → x ⊕ neg x ≡ 0ω
-unfolding _⊕_ neg 0ω whole
-⊕-invr x = zω≡ (+ℤ-invr (x .a)) (+ℤ-invr (x .b)) (+ℤ-invr (x .c)) (+ℤ-invr (x .d))
+pub +ω-invr : (x : Zω) → x +ω neg x ≡ 0ω
+unfolding _+ω_ neg 0ω whole
++ω-invr x = zω≡ (+ℤ-invr (x .a)) (+ℤ-invr (x .b)) (+ℤ-invr (x .c)) (+ℤ-invr (x .d))
 
 -- the negative first
-pub ⊕-invl : (x : Zω) → neg x ⊕ x ≡ 0ω
-⊕-invl x = ⊕-comm (neg x) x ∙ ⊕-invr x
+pub +ω-invl : (x : Zω) → neg x +ω x ≡ 0ω
++ω-invl x = +ω-comm (neg x) x ∙ +ω-invr x
 
 -- the middle two of four summands exchanged
-pub ⊕-swap : (x y z t : Zω) → (x ⊕ y) ⊕ (z ⊕ t) ≡ (x ⊕ z) ⊕ (y ⊕ t)
-⊕-swap x y z t =
-    ⊕-assoc x y (z ⊕ t)
-    ∙ ap (λ u. x ⊕ u) (sym (⊕-assoc y z t) ∙ ap (λ u. u ⊕ t) (⊕-comm y z) ∙ ⊕-assoc z y t)
-    ∙ sym (⊕-assoc x z (y ⊕ t))
+pub +ω-swap : (x y z t : Zω) → (x +ω y) +ω (z +ω t) ≡ (x +ω z) +ω (y +ω t)
++ω-swap x y z t =
+    +ω-assoc x y (z +ω t)
+    ∙ ap (λ u. x +ω u) (sym (+ω-assoc y z t) ∙ ap (λ u. u +ω t) (+ω-comm y z) ∙ +ω-assoc z y t)
+    ∙ sym (+ω-assoc x z (y +ω t))
 
 -- the negative of a sum
-pub neg-⊕ : (x y : Zω) → neg (x ⊕ y) ≡ neg x ⊕ neg y
-unfolding _⊕_ neg
-neg-⊕ x y = zω≡ (negℤ-+ℤ (x .a) (y .a)) (negℤ-+ℤ (x .b) (y .b)) (negℤ-+ℤ (x .c) (y .c)) (negℤ-+ℤ (x .d) (y .d))
+pub neg-+ω : (x y : Zω) → neg (x +ω y) ≡ neg x +ω neg y
+unfolding _+ω_ neg
+neg-+ω x y = zω≡ (negℤ-+ℤ (x .a) (y .a)) (negℤ-+ℤ (x .b) (y .b)) (negℤ-+ℤ (x .c) (y .c)) (negℤ-+ℤ (x .d) (y .d))
 
 -- twice negated
 pub neg-neg : (x : Zω) → neg (neg x) ≡ x
@@ -64,9 +64,9 @@ unfolding neg 0ω whole
 neg-0ω = refl
 
 -- ω times a sum
-pub mulω-⊕ : (x y : Zω) → mulω (x ⊕ y) ≡ mulω x ⊕ mulω y
-unfolding _⊕_ mulω
-mulω-⊕ x y = zω≡ (negℤ-+ℤ (x .d) (y .d)) refl refl refl
+pub mulω-+ω : (x y : Zω) → mulω (x +ω y) ≡ mulω x +ω mulω y
+unfolding _+ω_ mulω
+mulω-+ω x y = zω≡ (negℤ-+ℤ (x .d) (y .d)) refl refl refl
 
 -- ω times 0
 pub mulω-0ω : mulω 0ω ≡ 0ω
@@ -79,10 +79,10 @@ unfolding mulω neg
 mulω-neg x = refl
 
 -- ω^k times a sum
-pub ω^-⊕ : (k : ℕ) (x y : Zω) → ω^ k (x ⊕ y) ≡ ω^ k x ⊕ ω^ k y
+pub ω^-+ω : (k : ℕ) (x y : Zω) → ω^ k (x +ω y) ≡ ω^ k x +ω ω^ k y
 unfolding ω^
-ω^-⊕ zero x y = refl
-ω^-⊕ (suc k) x y = ap mulω (ω^-⊕ k x y) ∙ mulω-⊕ (ω^ k x) (ω^ k y)
+ω^-+ω zero x y = refl
+ω^-+ω (suc k) x y = ap mulω (ω^-+ω k x y) ∙ mulω-+ω (ω^ k x) (ω^ k y)
 
 -- ω^k times 0
 pub ω^-0ω : (k : ℕ) → ω^ k 0ω ≡ 0ω
@@ -144,31 +144,31 @@ unfolding ω^
     turns = omega arith
 
 -- √2 times a sum
-pub mul√2-⊕ : (x y : Zω) → mul√2 (x ⊕ y) ≡ mul√2 x ⊕ mul√2 y
+pub mul√2-+ω : (x y : Zω) → mul√2 (x +ω y) ≡ mul√2 x +ω mul√2 y
 unfolding mul√2
-mul√2-⊕ x y = simp (ω^-⊕, neg-⊕) (⊕-swap (ω^ 1 x) (ω^ 1 y) (neg (ω^ 3 x)) (neg (ω^ 3 y)))
+mul√2-+ω x y = simp (ω^-+ω, neg-+ω) (+ω-swap (ω^ 1 x) (ω^ 1 y) (neg (ω^ 3 x)) (neg (ω^ 3 y)))
 
 -- √2 times 0
 pub mul√2-0ω : mul√2 0ω ≡ 0ω
 unfolding mul√2
-mul√2-0ω = simp (ω^-0ω, neg-0ω, ⊕-idl)
+mul√2-0ω = simp (ω^-0ω, neg-0ω, +ω-idl)
 
 -- √2√2 = 2
-pub mul√2-twice : (x : Zω) → mul√2 (mul√2 x) ≡ x ⊕ x
+pub mul√2-twice : (x : Zω) → mul√2 (mul√2 x) ≡ x +ω x
 unfolding mul√2
 mul√2-twice x =
-    simp (ω^-⊕, ω^-neg, neg-⊕, ← ω^-add, ω^-four, neg-neg)
-    (ap (λ u. (ω^ 2 x ⊕ x) ⊕ u) (⊕-comm x (ω^ 6 x))
-    ∙ ⊕-swap (ω^ 2 x) x (ω^ 6 x) x
-    ∙ ap (λ u. (ω^ 2 x ⊕ u) ⊕ (x ⊕ x)) (ω^-add 4 2 x ∙ ω^-four (ω^ 2 x))
-    ∙ ap (λ u. u ⊕ (x ⊕ x)) (⊕-invr (ω^ 2 x))
-    ∙ ⊕-idl (x ⊕ x))
+    simp (ω^-+ω, ω^-neg, neg-+ω, ← ω^-add, ω^-four, neg-neg)
+    (ap (λ u. (ω^ 2 x +ω x) +ω u) (+ω-comm x (ω^ 6 x))
+    ∙ +ω-swap (ω^ 2 x) x (ω^ 6 x) x
+    ∙ ap (λ u. (ω^ 2 x +ω u) +ω (x +ω x)) (ω^-add 4 2 x ∙ ω^-four (ω^ 2 x))
+    ∙ ap (λ u. u +ω (x +ω x)) (+ω-invr (ω^ 2 x))
+    ∙ +ω-idl (x +ω x))
 
 -- √2 to a power, times a sum
-pub √2^-⊕ : (k : ℕ) (x y : Zω) → √2^ k (x ⊕ y) ≡ √2^ k x ⊕ √2^ k y
+pub √2^-+ω : (k : ℕ) (x y : Zω) → √2^ k (x +ω y) ≡ √2^ k x +ω √2^ k y
 unfolding √2^
-√2^-⊕ zero x y = refl
-√2^-⊕ (suc k) x y = ap mul√2 (√2^-⊕ k x y) ∙ mul√2-⊕ (√2^ k x) (√2^ k y)
+√2^-+ω zero x y = refl
+√2^-+ω (suc k) x y = ap mul√2 (√2^-+ω k x y) ∙ mul√2-+ω (√2^ k x) (√2^ k y)
 
 -- √2 to a power, times 0
 pub √2^-0ω : (k : ℕ) → √2^ k 0ω ≡ 0ω
@@ -179,7 +179,7 @@ unfolding √2^
 -- √2 times a power of ω
 pub mul√2-ω^ : (k : ℕ) (x : Zω) → mul√2 (ω^ k x) ≡ ω^ k (mul√2 x)
 unfolding mul√2
-mul√2-ω^ k x = rw (ω^-⊕, ω^-neg, ω^-comm 1 k x, ω^-comm 3 k x)
+mul√2-ω^ k x = rw (ω^-+ω, ω^-neg, ω^-comm 1 k x, ω^-comm 3 k x)
 
 -- powers of √2 and of ω commute
 pub √2^-ω^ : (j k : ℕ) (x : Zω) → √2^ j (ω^ k x) ≡ ω^ k (√2^ j x)
@@ -207,8 +207,8 @@ double-ℤ (negsuc m) (negsuc n) h =
     ap negsuc half
 
 -- a double determines the number
-pub double-cancel : (x y : Zω) → x ⊕ x ≡ y ⊕ y → x ≡ y
-unfolding _⊕_
+pub double-cancel : (x y : Zω) → x +ω x ≡ y +ω y → x ≡ y
+unfolding _+ω_
 double-cancel x y h =
     zω≡ (double-ℤ (x .a) (y .a) (ap (λ z. z .a) h)) (double-ℤ (x .b) (y .b) (ap (λ z. z .b) h))
     (double-ℤ (x .c) (y .c) (ap (λ z. z .c) h)) (double-ℤ (x .d) (y .d) (ap (λ z. z .d) h))
@@ -224,7 +224,7 @@ unfolding √2^
 -- a number that ω^k leaves as it is, k 4 modulo 8, is its own negative, so 0
 own-negative : (k : ℕ) (z : Zω) → k % 8 ≡ 4 → ω^ k z ≡ z → z ≡ 0ω
 own-negative k z four h =
-    double-cancel z 0ω (ap (λ u. z ⊕ u) (sym h ∙ ω^-cong k 4 z four ∙ ω^-four z) ∙ ⊕-invr z ∙ sym (⊕-idl 0ω))
+    double-cancel z 0ω (ap (λ u. z +ω u) (sym h ∙ ω^-cong k 4 z four ∙ ω^-four z) ∙ +ω-invr z ∙ sym (+ω-idl 0ω))
 
 -- what ω^k leaves as it is, ω^(2k) leaves too
 ω^-square : (k : ℕ) (z : Zω) → ω^ k z ≡ z → ω^ (k + k) z ≡ z

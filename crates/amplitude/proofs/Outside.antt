@@ -10,7 +10,7 @@ use Rattle.gate_list.specs.Gate.{Gate, one, two, CX, CZ, SWAP, Within, AllWithi
 use Rattle.amplitude.specs.Number.{0ω, 1ω, ω^}
 use Rattle.amplitude.specs.Bits.{bit, put}
 use Rattle.amplitude.specs.Circuit.{State, basis, apply, run, column}
-use Rattle.amplitude.proofs.NumberLaws.{⊕-idl, ω^-0ω}
+use Rattle.amplitude.proofs.NumberLaws.{+ω-idl, ω^-0ω}
 use Rattle.amplitude.proofs.BitLaws.{put-above}
 use Rattle.amplitude.proofs.Linear.{times-0ω}
 
@@ -22,7 +22,7 @@ Outside n ψ = (w : ℕ) → 2 ^ n ≤ w → ψ w ≡ 0ω
 pub apply-outside : (n : ℕ) (g : Gate) (ψ : State) → Within n g → Outside n ψ → Outside n (apply g ψ)
 unfolding apply
 apply-outside n (one u q) ψ l h w m =
-    rw (h (put q false w) (put-above n q false w l m), h (put q true w) (put-above n q true w l m)) (simp times-0ω (⊕-idl 0ω))
+    rw (h (put q false w) (put-above n q false w l m), h (put q true w) (put-above n q true w l m)) (simp times-0ω (+ω-idl 0ω))
 apply-outside n (two CX a b) ψ l h w m = h _ (put-above n b (xor (bit a w) (bit b w)) w (l .1) m)
 apply-outside n (two CZ a b) ψ l h w m = go (bit a w && bit b w)
   where

@@ -17,7 +17,7 @@ use Rattle.amplitude.specs.Number.{Zω, 0ω, 1ω, ω^}
 use Rattle.amplitude.specs.Bits.{bit, put}
 use Rattle.amplitude.specs.Matrix.{matrix, entry, times}
 use Rattle.amplitude.specs.Circuit.{State, basis, apply, run, column, tally, isH, hGates}
-use Rattle.amplitude.proofs.NumberLaws.{⊕-idl, ⊕-idr, ω^-four}
+use Rattle.amplitude.proofs.NumberLaws.{+ω-idl, +ω-idr, ω^-four}
 use Rattle.amplitude.proofs.Norm.{norm, norm-ω^, norm-parallelogram, norm-0ω, norm-1ω}
 use Rattle.amplitude.proofs.XorLaws.{xor-comm, xor-cancel}
 use Rattle.amplitude.proofs.BitLaws.{digit-below, double-half, double-rest, bit-put-same, bit-put-other, put-put-same, put-put-other}
@@ -131,13 +131,13 @@ total-by-pairs n q c f g l h = omega (arith, twice, mul-left-comm c 2 (total n g
 pub kind-norm : (u : OneQubit) (q : ℕ) (x y : Zω) →
     norm (row (matrix u) false x y) + norm (row (matrix u) true x y) ≡ 2 ^ isH (one u q) * (norm x + norm y)
 unfolding matrix entry times oneQubitKind
-kind-norm X q x y = simp (⊕-idl, ⊕-idr, norm-ω^) (omega arith)
-kind-norm Y q x y = simp (⊕-idl, ⊕-idr, norm-ω^) (omega arith)
-kind-norm Z q x y = simp (⊕-idl, ⊕-idr, norm-ω^) (omega arith)
-kind-norm S q x y = simp (⊕-idl, ⊕-idr, norm-ω^) (omega arith)
-kind-norm S† q x y = simp (⊕-idl, ⊕-idr, norm-ω^) (omega arith)
-kind-norm T q x y = simp (⊕-idl, ⊕-idr, norm-ω^) (omega arith)
-kind-norm T† q x y = simp (⊕-idl, ⊕-idr, norm-ω^) (omega arith)
+kind-norm X q x y = simp (+ω-idl, +ω-idr, norm-ω^) (omega arith)
+kind-norm Y q x y = simp (+ω-idl, +ω-idr, norm-ω^) (omega arith)
+kind-norm Z q x y = simp (+ω-idl, +ω-idr, norm-ω^) (omega arith)
+kind-norm S q x y = simp (+ω-idl, +ω-idr, norm-ω^) (omega arith)
+kind-norm S† q x y = simp (+ω-idl, +ω-idr, norm-ω^) (omega arith)
+kind-norm T q x y = simp (+ω-idl, +ω-idr, norm-ω^) (omega arith)
+kind-norm T† q x y = simp (+ω-idl, +ω-idr, norm-ω^) (omega arith)
 kind-norm H q x y = simp (ω^-zero, ω^-four) (omega (arith, norm-parallelogram x y))
 
 -- CX exchanges the outputs of a pair where a is 1: their values add up to the same

@@ -7,7 +7,7 @@ use mathlib.Core.Bool.{true, false, cond, _&&_, _||_, xor}
 use mathlib.Core.List.{List, [], _∷_}
 use lib.Dec.{eqb}
 use Rattle.gate_list.specs.Gate.{Gate, one, two, CX, CZ, SWAP, oneQubitKind}
-use Rattle.amplitude.specs.Number.{Zω, 0ω, 1ω, _⊕_, ω^, √2^}
+use Rattle.amplitude.specs.Number.{Zω, 0ω, 1ω, _+ω_, ω^, √2^}
 use Rattle.amplitude.specs.Bits.{digit, bit, put}
 use Rattle.amplitude.specs.Matrix.{matrix, entry, times}
 
@@ -22,7 +22,7 @@ basis v w = cond (eqb v w) 1ω 0ω
 -- exchanges the two bits
 unfoldable pub apply : Gate → State → State
 apply (one u q) ψ w =
-    times (entry (matrix u) (bit q w) false) (ψ (put q false w)) ⊕ times (entry (matrix u) (bit q w) true) (ψ (put q true w))
+    times (entry (matrix u) (bit q w) false) (ψ (put q false w)) +ω times (entry (matrix u) (bit q w) true) (ψ (put q true w))
 apply (two CX a b) ψ w = ψ (put b (xor (bit a w) (bit b w)) w)
 apply (two CZ a b) ψ w = cond (bit a w && bit b w) (ω^ 4 (ψ w)) (ψ w)
 apply (two SWAP a b) ψ w = ψ (put a (bit b w) (put b (bit a w) w))

@@ -3,7 +3,7 @@
 use Prim.Native.Nat.{ℕ, zero, suc}
 use lib.IntN.{ℤ, pos, negℤ, _+ℤ_}
 
-infixl 60 _⊕_
+infixl 60 _+ω_
 pub record Zω : Type 0 where
   pub a : ℤ
   pub b : ℤ
@@ -21,8 +21,8 @@ unfoldable pub 1ω : Zω
 1ω = whole (pos 1)
 
 -- addition
-unfoldable pub _⊕_ : Zω → Zω → Zω
-x ⊕ y = record { a = x .a +ℤ y .a; b = x .b +ℤ y .b; c = x .c +ℤ y .c; d = x .d +ℤ y .d }
+unfoldable pub _+ω_ : Zω → Zω → Zω
+x +ω y = record { a = x .a +ℤ y .a; b = x .b +ℤ y .b; c = x .c +ℤ y .c; d = x .d +ℤ y .d }
 
 -- negation
 unfoldable pub neg : Zω → Zω
@@ -39,7 +39,7 @@ unfoldable pub ω^ : ℕ → Zω → Zω
 
 -- multiplication by √2 = ω − ω³
 unfoldable pub mul√2 : Zω → Zω
-mul√2 x = ω^ 1 x ⊕ neg (ω^ 3 x)
+mul√2 x = ω^ 1 x +ω neg (ω^ 3 x)
 
 -- multiplication by √2 k times
 unfoldable pub √2^ : ℕ → Zω → Zω

@@ -5,7 +5,7 @@ use mathlib.Core.Bool.{xor}
 use Rattle.gate_list.specs.Gate.{inverseKind, inverseGate, inverseList}
 use Rattle.amplitude.specs.Bits.{bit}
 use Rattle.phase_sum.specs.Sets.{_△_, xorUpTo, parityUpTo, parity, firstIn, without, from}
-use Rattle.phase_sum.specs.Parity.{_⊻_, complement, rest, replaceIn}
+use Rattle.phase_sum.specs.Parity.{_⊕_, complement, rest, replaceIn}
 use Rattle.phase_sum.specs.Phase.{sumAt, phaseAt, keep, merge, addTerm, addConstant, addPhase, rebuild, inOdd}
 use Rattle.phase_sum.specs.Building.{input, initial, setWire, withPhase, hadamard, gate, gatesFrom, build}
 use Rattle.phase_sum.specs.Stepping.{replace, firstReady, coeffs, outOf, oddHalves, takeOut, turned, kindOf}
@@ -15,7 +15,7 @@ use Rattle.comparison.specs.Table.{AllRight, rows, choices}
 
 -- the comparison gives document 01's results
 pub p-rows : AllRight rows
-unfolding xor inverseKind inverseGate inverseList bit _△_ xorUpTo parityUpTo parity firstIn without from _⊻_ complement rest replaceIn
+unfolding xor inverseKind inverseGate inverseList bit _△_ xorUpTo parityUpTo parity firstIn without from _⊕_ complement rest replaceIn
     sumAt phaseAt keep merge addTerm addConstant addPhase rebuild inOdd input initial setWire withPhase hadamard gate gatesFrom build
     replace firstReady coeffs outOf oddHalves takeOut turned kindOf addPin addSum addTurn addJoin pinFrom stepWith reduceFrom
     reduceEnd weight firstDiffering blockedInput searched judge compare
@@ -23,7 +23,7 @@ p-rows = (refl, (refl, (refl, (refl, (refl, (refl, (refl, (refl, (refl, (refl, t
 
 -- and makes document 01's choices
 pub choice-rows : AllRight choices
-unfolding xor inverseKind inverseGate inverseList bit _△_ xorUpTo parityUpTo parity firstIn without from _⊻_ complement rest replaceIn sumAt
+unfolding xor inverseKind inverseGate inverseList bit _△_ xorUpTo parityUpTo parity firstIn without from _⊕_ complement rest replaceIn sumAt
     phaseAt keep merge addTerm addConstant addPhase rebuild inOdd input initial setWire withPhase hadamard gate gatesFrom build
     replace firstReady coeffs outOf oddHalves takeOut turned kindOf addPin addSum addTurn addJoin pinFrom stepWith reduceFrom
     reduceEnd weight firstDiffering blockedInput searched judge compare

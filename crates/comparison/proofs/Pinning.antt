@@ -18,14 +18,14 @@ use Rattle.amplitude.specs.Bits.{bit, flip}
 use Rattle.amplitude.specs.Circuit.{column}
 use Rattle.amplitude.proofs.BitLaws.{bit-zero, bits-ext}
 use Rattle.phase_sum.specs.Sets.{_△_, firstIn, without, from, Among, Clear}
-use Rattle.phase_sum.specs.Parity.{Parity, value, _⊻_, rest}
+use Rattle.phase_sum.specs.Parity.{Parity, value, _⊕_, rest}
 use Rattle.phase_sum.specs.Building.{PathSum, wire, input, build}
 use Rattle.phase_sum.specs.Stepping.{replace}
 use Rattle.phase_sum.specs.Meaning.{sumOver, phasor, closes, onDiagonal, remaining}
 use Rattle.amplitude.proofs.XorLaws.{xor-falseˡ, xor-falseʳ, xor-self}
 use Rattle.phase_sum.proofs.SetLaws.{△-cancel, △-idl, parity-zero, power-flip}
 use Rattle.phase_sum.proofs.VariableLaws.{firstIn-some, firstIn-none, among-from}
-use Rattle.phase_sum.proofs.ParityLaws.{value-⊻, value-flip}
+use Rattle.phase_sum.proofs.ParityLaws.{value-⊕, value-flip}
 use Rattle.phase_sum.proofs.Summing.{sumOver-without, sumOver-on, sumOver-zero}
 use Rattle.phase_sum.proofs.Replacing.{pin-law, pinned-wire, kept-wire, input-free, closes-open}
 use Rattle.phase_sum.proofs.Wellformed.{Holds, Good, GoodWires, good-build, good-replace, good-wires-replace, live-replace, holds-mismatch}
@@ -65,8 +65,8 @@ pub record PinEnd (scratch n : ℕ) (s : PathSum) (c : Counts) (e : End) : Type 
   pub stuck : (q : Parity) → e .blockedBy ≡ some q → Blocking scratch n (e .sum) q
 
 -- two parities whose exclusive or is 0 are equal
-zero-mismatch : (w p : Parity) → isZero (_⊻_ w p) ≡ true → w ≡ p
-unfolding _⊻_
+zero-mismatch : (w p : Parity) → isZero (_⊕_ w p) ≡ true → w ≡ p
+unfolding _⊕_
 zero-mismatch w p h = λ i. record { vars = vars i; flipped = flipped i }
   where
     parts : (eqb (w .vars △ p .vars) 0 ≡ true) × (not (xor (w .flipped) (p .flipped)) ≡ true)
@@ -215,7 +215,7 @@ closes-settled : (scratch n : ℕ) (s : PathSum) (x : ℕ) → Settled scratch n
 unfolding closes
 closes-settled scratch zero s x h = refl
 closes-settled scratch (suc n) s x h =
-    rw (closes-settled scratch n s x (λ p l. h p (omega arith)), h n (omega arith), value-⊻, xor-self (value (input scratch n) x))
+    rw (closes-settled scratch n s x (λ p l. h p (omega arith)), h n (omega arith), value-⊕, xor-self (value (input scratch n) x))
 
 -- so the diagonal is of the phase alone
 pub settled-diagonal :
@@ -242,7 +242,7 @@ reads-closes :
 unfolding reads closes
 reads-closes scratch zero s v x clear inputs = refl
 reads-closes scratch (suc n) s v x clear inputs =
-    rw (reads-closes scratch n s v x clear (λ q l. inputs q (omega arith)), value-⊻, shown)
+    rw (reads-closes scratch n s v x clear (λ q l. inputs q (omega arith)), value-⊕, shown)
   where
     shown : value (input scratch n) x ≡ bit n v
     shown =

@@ -6,7 +6,7 @@ use mathlib.Core.Option.{Option, none, some}
 use lib.ListN.{length}
 use lib.Dec.{eqb}
 use Rattle.phase_sum.specs.Sets.{firstIn}
-use Rattle.phase_sum.specs.Parity.{Parity, _⊻_, rest}
+use Rattle.phase_sum.specs.Parity.{Parity, _⊕_, rest}
 use Rattle.phase_sum.specs.Building.{PathSum, wire, input}
 use Rattle.phase_sum.specs.Stepping.{replace, firstReady, halfSum, oddHalves, takeOut, turned, kindOf, sum, turn, constraint, constrained}
 
@@ -55,7 +55,7 @@ isZero q = eqb (q .vars) 0 && not (q .flipped)
 
 -- the parity of output wire q and input q together
 abbrev pub mismatch : ℕ → ℕ → PathSum → Parity
-mismatch scratch q s = _⊻_ (wire q s) (input scratch q)
+mismatch scratch q s = wire q s ⊕ input scratch q
 
 -- pinning the m qubits from q upwards. (Sets hold no other path variables than the live ones, so the first of these that is in
 -- Q is Q's lowest path variable.)

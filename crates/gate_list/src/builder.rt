@@ -1,9 +1,11 @@
 // The builder: an empty record at the front of a lent buffer, and one gate more at the end of the record that stands there.
 ghost use mathlib.Core.Path.{_≡_};
-ghost use Prim.Native.Nat.{_+_, _*_, _<_, _≤_};
+ghost use Prim.Native.Nat.{_<_, _≤_};
 ghost use mathlib.Core.List.{[]};
 ghost use lib.ListN.{length};
+ghost use Rattle.gate_list.specs.Format.{mostGates};
 ghost use Rattle.gate_list.specs.Gate.{raw};
+ghost use Rattle.gate_list.specs.Reading.{size};
 ghost use Rattle.gate_list.specs.Writing.{write, start, add};
 ghost use Rattle.gate_list.specs.Answer.{writtenAnswer};
 ghost use Rattle.gate_list.specs.Inner.{appended};
@@ -40,7 +42,7 @@ pub fn start(buffer: &mut [u8], n: usize) -> Written
 
 // The gate behind the g gates that stand in the buffer, once all but the buffer's length has been checked.
 fn append(buffer: &mut [u8], n: usize, g: usize, kind: u8, a: u8, b: u8) -> Written
-    requires { ⌜ (n < 256) × (g < 512) × (5 + 3 * g ≤ length (now buffer)) ⌝ }
+    requires { ⌜ (n < 256) × (g < mostGates) × (size g ≤ length (now buffer)) ⌝ }
     ensures answers { λ r. ⌜ writtenAnswer r ≡ write [] (appended n g (raw kind a b) (now (buffer .entry))) (now (buffer .entry)) .answer ⌝ }
     ensures leaves { λ _. ⌜ now (buffer .exit) ≡ write [] (appended n g (raw kind a b) (now (buffer .entry))) (now (buffer .entry)) .buffer ⌝ }
 {

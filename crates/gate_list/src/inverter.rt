@@ -1,8 +1,10 @@
 // The inverse of a record, written into a second buffer.
 ghost use mathlib.Core.Path.{_≡_};
-ghost use Prim.Native.Nat.{_+_, _*_, _≤_};
+ghost use Prim.Native.Nat.{_*_, _≤_};
 ghost use mathlib.Core.List.{_++_};
 ghost use lib.ListN.{length, take, drop};
+ghost use Rattle.gate_list.specs.Format.{headSize, gateSize};
+ghost use Rattle.gate_list.specs.Reading.{size};
 ghost use Rattle.gate_list.specs.Writing.{inverse};
 ghost use Rattle.gate_list.specs.Answer.{writtenAnswer};
 ghost use Rattle.gate_list.specs.Inner.{inverseNumber, inverseBytes};
@@ -30,8 +32,8 @@ fn inverse_kind(kind: u8) -> u8
 
 // The g gates of s, backwards and each inverted, behind the head in the buffer.
 fn write_inverse(s: &[u8], g: usize, buffer: &mut [u8])
-    requires { ⌜ (5 + 3 * g ≤ length (now s)) × (5 + 3 * g ≤ length (now buffer)) ⌝ }
-    ensures { λ _. ⌜ now (buffer .exit) ≡ take 5 (now (buffer .entry)) ++ inverseBytes (take (3 * g) (drop 5 (now (s .entry)))) ++ drop (5 + 3 * g) (now (buffer .entry)) ⌝ }
+    requires { ⌜ (size g ≤ length (now s)) × (size g ≤ length (now buffer)) ⌝ }
+    ensures { λ _. ⌜ now (buffer .exit) ≡ take headSize (now (buffer .entry)) ++ inverseBytes (take (gateSize * g) (drop headSize (now (s .entry)))) ++ drop (size g) (now (buffer .entry)) ⌝ }
 {
     let mut i = 0;
     while i < g {

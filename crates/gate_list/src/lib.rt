@@ -11,7 +11,7 @@ ghost use mathlib.Core.Path.{_≡_};
 ghost use Prim.Native.Nat.{_+_, _/_, _%_, _≤_};
 ghost use lib.ListN.{length, take, drop};
 ghost use mathlib.Core.List.{[], _∷_, _++_};
-ghost use Rattle.gate_list.specs.Format.{fromBytes};
+ghost use Rattle.gate_list.specs.Format.{headSize, gateSize, fromBytes};
 ghost use Rattle.gate_list.specs.Reading.{marked};
 ghost use Rattle.gate_list.specs.Writing.{headBytes};
 ghost use Rattle.gate_list.specs.Answer.{numberOf};
@@ -138,8 +138,8 @@ fn has_mark(s: &[u8], mark: [u8; 2]) -> bool
 
 // A record's head at the front of a buffer.
 fn write_head(buffer: &mut [u8], n: u8, g: u16)
-    requires { ⌜ 5 ≤ length (now buffer) ⌝ }
-    ensures { λ _. ⌜ now (buffer .exit) ≡ headBytes n g ++ drop 5 (now (buffer .entry)) ⌝ }
+    requires { ⌜ headSize ≤ length (now buffer) ⌝ }
+    ensures { λ _. ⌜ now (buffer .exit) ≡ headBytes n g ++ drop headSize (now (buffer .entry)) ⌝ }
 {
     buffer[0] = LIST_MARK[0];
     buffer[1] = LIST_MARK[1];
@@ -150,8 +150,8 @@ fn write_head(buffer: &mut [u8], n: u8, g: u16)
 
 // A gate's three bytes at a place of a buffer.
 fn write_gate(buffer: &mut [u8], at: usize, kind: u8, a: u8, b: u8)
-    requires { ⌜ at + 3 ≤ length (now buffer) ⌝ }
-    ensures { λ _. ⌜ now (buffer .exit) ≡ take at (now (buffer .entry)) ++ kind ∷ a ∷ b ∷ drop (at + 3) (now (buffer .entry)) ⌝ }
+    requires { ⌜ at + gateSize ≤ length (now buffer) ⌝ }
+    ensures { λ _. ⌜ now (buffer .exit) ≡ take at (now (buffer .entry)) ++ kind ∷ a ∷ b ∷ drop (at + gateSize) (now (buffer .entry)) ⌝ }
 {
     buffer[at] = kind;
     buffer[at + 1] = a;

@@ -1,10 +1,10 @@
 // Reading a gate-list record: the check call, and the gate bytes as a part of the caller's slice.
 ghost use mathlib.Core.Path.{_≡_};
-ghost use Prim.Native.Nat.{_+_, _*_, _≤_};
+ghost use Prim.Native.Nat.{_*_, _≤_};
 ghost use lib.ListN.{length, take, drop};
-ghost use mathlib.Core.Option.{Option};
+ghost use Rattle.gate_list.specs.Format.{headSize, gateSize};
 ghost use Rattle.gate_list.specs.Row.{first};
-ghost use Rattle.gate_list.specs.Reading.{raws, allGateRows, read};
+ghost use Rattle.gate_list.specs.Reading.{raws, size, allGateRows, read};
 ghost use Rattle.gate_list.specs.Writing.{checkAnswer, gatePart, gatesAt};
 ghost use Rattle.gate_list.specs.Answer.{checkedAnswer};
 ghost use Rattle.gate_list.specs.Inner.{headAnswer, gatesFault};
@@ -55,8 +55,8 @@ fn check_head(s: &[u8]) -> Checked
 
 // Each gate in turn: the first bad one's first of 5, 7, 6, with its index.
 fn check_gates(s: &[u8], n: usize, g: usize) -> GatesCheck
-    requires { ⌜ 5 + 3 * g ≤ length (now s) ⌝ }
-    ensures { λ r. ⌜ gatesFault r ≡ first (allGateRows n 0 (raws (take (3 * g) (drop 5 (now (s .entry)))))) ⌝ }
+    requires { ⌜ size g ≤ length (now s) ⌝ }
+    ensures { λ r. ⌜ gatesFault r ≡ first (allGateRows n 0 (raws (take (gateSize * g) (drop headSize (now (s .entry)))))) ⌝ }
 {
     let mut i = 0;
     while i < g {

@@ -7,7 +7,7 @@ use mathlib.Core.List.{List, [], _∷_}
 use Rattle.gate_list.specs.Gate.{one, two, Y, T†, H, CX}
 use Rattle.amplitude.specs.Bits.{bit}
 use Rattle.phase_sum.specs.Sets.{_△_, xorUpTo, without, from}
-use Rattle.phase_sum.specs.Parity.{Parity, of, _⊻_, complement, replaceIn}
+use Rattle.phase_sum.specs.Parity.{Parity, of, _⊕_, complement, replaceIn}
 use Rattle.phase_sum.specs.Phase.{Phase, Term, term, keep, merge, addTerm, addConstant, addPhase, rebuild, inOdd}
 use Rattle.phase_sum.specs.Building.{PathSum, input, initial, setWire, withPhase, hadamard, gate, gatesFrom, build}
 use Rattle.phase_sum.specs.Stepping.{replace, outOf, oddHalves, takeOut, turned, constrained}
@@ -24,7 +24,7 @@ sum φ ws vs = record { phase = φ; wires = ws; live = vs }
 
 -- H on input 0 brings variable 1, and 4 on the product of the two
 pub h-built : build 0 1 (one H 0 ∷ []) ≡ sum (phase 0 (term 1 2 ∷ term 2 2 ∷ term 3 6 ∷ [])) (of 2 ∷ []) (1 ∷ [])
-unfolding build gatesFrom gate hadamard initial input from withPhase addPhase addTerm addConstant merge keep _⊻_ _△_ xorUpTo bit xor
+unfolding build gatesFrom gate hadamard initial input from withPhase addPhase addTerm addConstant merge keep _⊕_ _△_ xorUpTo bit xor
 h-built = refl
 
 -- Y: −1 where the input is 1, the output complemented, and ω²
@@ -39,7 +39,7 @@ t-inverse-built = refl
 
 -- CX from 0 to 1 adds input 0 to wire 1
 pub cx-built : build 0 2 (two CX 0 1 ∷ []) ≡ sum (phase 0 []) (of 1 ∷ of 3 ∷ []) []
-unfolding build gatesFrom gate initial input from setWire _⊻_ _△_ xorUpTo bit xor
+unfolding build gatesFrom gate initial input from setWire _⊕_ _△_ xorUpTo bit xor
 cx-built = refl
 
 -- a phase of 1 on a complemented parity: the constant 1 and −1 on the parity
@@ -64,12 +64,12 @@ odd-three = refl
 
 -- replacing variable 1 by input 0, in terms and wires: 4 on both together is gone
 pub replaced : replace 1 (of 1) (sum (phase 0 (term 3 4 ∷ [])) (of 2 ∷ of 4 ∷ []) (1 ∷ 2 ∷ [])) ≡ sum (phase 0 []) (of 1 ∷ of 4 ∷ []) (2 ∷ [])
-unfolding replace rebuild replaceIn without addPhase addTerm merge keep _⊻_ _△_ xorUpTo bit xor
+unfolding replace rebuild replaceIn without addPhase addTerm merge keep _⊕_ _△_ xorUpTo bit xor
 replaced = refl
 
 -- replacing variable 1 by the complement of input 0 where a wire holds it and input 1's variable 2
 pub replaced-complement : replaceIn 1 (not-of 1) (of 6) ≡ not-of 5
-unfolding replaceIn _⊻_ _△_ xorUpTo bit xor
+unfolding replaceIn _⊕_ _△_ xorUpTo bit xor
 replaced-complement = refl
 
 -- y = 1 is taken out of its terms, which stay

@@ -14,23 +14,23 @@ use lib.ListN.{length, getD, set, length-append, length-set, length-map}
 use lib.Seq.{getD-set-same, getD-set-other}
 use borrow.Author.Tests.{ltb-true, ltb-false, eqb-true, eqb-false, eq-eqb, not-true}
 use Rattle.gate_list.specs.Gate.{OneQubit, X, Y, Z, S, S†, T, T†, H, Gate, one, two, CX, CZ, SWAP, Within, AllWithin}
-use Rattle.amplitude.specs.Number.{Zω, 0ω, 1ω, _⊕_, ω^}
+use Rattle.amplitude.specs.Number.{Zω, 0ω, 1ω, _+ω_, ω^}
 use Rattle.amplitude.specs.Bits.{digit, bit, put, flip}
 use Rattle.amplitude.specs.Matrix.{O, ω, rows, matrix, entry, times}
 use Rattle.amplitude.specs.Circuit.{State, basis, apply, run, column}
-use Rattle.amplitude.proofs.NumberLaws.{⊕-idl, ⊕-idr, ω^-0ω, ω^-add, ω^-cong, ω^-eight}
+use Rattle.amplitude.proofs.NumberLaws.{+ω-idl, +ω-idr, ω^-0ω, ω^-add, ω^-cong, ω^-eight}
 use Rattle.amplitude.proofs.BitLaws.{bit-put-same, bit-put-other, put-bit, put-below, bit-above, bits-ext, bit-zero, bit-power-other, bit-flip-same}
 use Rattle.phase_sum.specs.Sets.{_△_, single, from, Clear}
-use Rattle.phase_sum.specs.Parity.{Parity, value, of, _⊻_, complement}
+use Rattle.phase_sum.specs.Parity.{Parity, value, of, _⊕_, complement}
 use Rattle.phase_sum.specs.Phase.{Phase, sumAt, phaseAt, addConstant, addPhase}
 use Rattle.phase_sum.specs.Building.{PathSum, input, initial, wire, setWire, withPhase, turnBy, product, hadamard, gate, gatesFrom, build}
 use Rattle.phase_sum.specs.Meaning.{sumOver, phasor}
 use Rattle.amplitude.proofs.XorLaws.{xor-falseˡ, xor-falseʳ, xor-trueˡ, xor-self, xor-assoc, xor-comm, xor-cancel}
 use Rattle.phase_sum.proofs.SetLaws.{bit-△, parity-single, parity-empty}
 use Rattle.phase_sum.proofs.VariableLaws.{from-length, from-snoc}
-use Rattle.phase_sum.proofs.ParityLaws.{value-of, value-⊻, value-complement, value-flip}
+use Rattle.phase_sum.proofs.ParityLaws.{value-of, value-⊕, value-complement, value-flip}
 use Rattle.phase_sum.proofs.PhaseLaws.{Every, Free, every-map, phaseAt-addPhase, phaseAt-addConstant, sumAt-free, every-addPhase}
-use Rattle.phase_sum.proofs.Summing.{sumOver-ω^, sumOver-⊕, sumOver-snoc, both-pinned}
+use Rattle.phase_sum.proofs.Summing.{sumOver-ω^, sumOver-+ω, sumOver-snoc, both-pinned}
 
 -- at assignment x the wires of the n qubits show output w, as a test
 unfoldable pub reads : ℕ → List Parity → ℕ → ℕ → Bool
@@ -118,8 +118,8 @@ product-turns false false z = refl
 
 -- so the phase on the product of two parities negates the power where both are 1
 pub phasor-product : (p q : Parity) (φ : Phase) (x : ℕ) →
-    phasor (addPhase 6 (_⊻_ p q) (addPhase 2 q (addPhase 2 p φ))) x ≡ ω^ (4 * digit (value p x && value q x)) (phasor φ x)
-phasor-product p q φ x = simp (phasor-turn, value-⊻) (product-turns (value p x) (value q x) (phasor φ x))
+    phasor (addPhase 6 (_⊕_ p q) (addPhase 2 q (addPhase 2 p φ))) x ≡ ω^ (4 * digit (value p x && value q x)) (phasor φ x)
+phasor-product p q φ x = simp (phasor-turn, value-⊕) (product-turns (value p x) (value q x) (phasor φ x))
 
 -- what a diagonal gate makes of a state
 pub apply-diagonal : (u : OneQubit) (c q : ℕ) (ψ : State) (w : ℕ) → matrix u ≡ rows (ω 0) O O (ω c) →
@@ -128,16 +128,16 @@ unfolding apply entry times ω^
 apply-diagonal u c q ψ w e = rw e (go (bit q w) refl)
   where
     go : (t : Bool) → bit q w ≡ t →
-        times (entry (rows (ω 0) O O (ω c)) t false) (ψ (put q false w)) ⊕ times (entry (rows (ω 0) O O (ω c)) t true) (ψ (put q true w))
+        times (entry (rows (ω 0) O O (ω c)) t false) (ψ (put q false w)) +ω times (entry (rows (ω 0) O O (ω c)) t true) (ψ (put q true w))
         ≡ ω^ (c * digit t) (ψ w)
     go true h =
         let same : put q true w ≡ w = rw h at (put-bit q w) in
         let once : c * 1 ≡ c = omega arith in
-        rw (same, once) (⊕-idl (ω^ c (ψ w)))
+        rw (same, once) (+ω-idl (ω^ c (ψ w)))
     go false h =
         let same : put q false w ≡ w = rw h at (put-bit q w) in
         let none : c * 0 ≡ 0 = omega arith in
-        rw (same, none) (⊕-idr (ψ w))
+        rw (same, none) (+ω-idr (ψ w))
 
 -- what a gate that exchanges the two values of its qubit makes of it
 pub apply-crossing : (u : OneQubit) (f : Bool → ℕ) (q : ℕ) (ψ : State) (w : ℕ) → matrix u ≡ rows O (ω (f false)) (ω (f true)) O →
@@ -147,19 +147,19 @@ apply-crossing u f q ψ w e = rw e (go (bit q w))
   where
     go : (t : Bool) →
         times (entry (rows O (ω (f false)) (ω (f true)) O) t false) (ψ (put q false w))
-        ⊕ times (entry (rows O (ω (f false)) (ω (f true)) O) t true) (ψ (put q true w))
+        +ω times (entry (rows O (ω (f false)) (ω (f true)) O) t true) (ψ (put q true w))
         ≡ ω^ (f t) (ψ (put q (not t) w))
-    go true = ⊕-idr (ω^ (f true) (ψ (put q false w)))
-    go false = ⊕-idl (ω^ (f false) (ψ (put q true w)))
+    go true = +ω-idr (ω^ (f true) (ψ (put q false w)))
+    go false = +ω-idl (ω^ (f false) (ψ (put q true w)))
 
 -- what H makes of it
-pub apply-H : (q : ℕ) (ψ : State) (w : ℕ) → apply (one H q) ψ w ≡ ψ (put q false w) ⊕ ω^ (4 * digit (bit q w)) (ψ (put q true w))
+pub apply-H : (q : ℕ) (ψ : State) (w : ℕ) → apply (one H q) ψ w ≡ ψ (put q false w) +ω ω^ (4 * digit (bit q w)) (ψ (put q true w))
 unfolding apply matrix entry times ω^
 apply-H q ψ w = go (bit q w)
   where
     go : (t : Bool) →
-        times (entry (matrix H) t false) (ψ (put q false w)) ⊕ times (entry (matrix H) t true) (ψ (put q true w))
-        ≡ ψ (put q false w) ⊕ ω^ (4 * digit t) (ψ (put q true w))
+        times (entry (matrix H) t false) (ψ (put q false w)) +ω times (entry (matrix H) t true) (ψ (put q true w))
+        ≡ ψ (put q false w) +ω ω^ (4 * digit t) (ψ (put q true w))
     go true = refl
     go false = refl
 
@@ -245,11 +245,11 @@ meaning-complement n q s v w l long =
 
 -- a wire with another one added adds that bit
 pub meaning-add : (n a b : ℕ) (s : PathSum) (v w : ℕ) → a < n → b < n → (a ≡ b → ⊥) → length (s .wires) ≡ n →
-    meaning n (setWire b (_⊻_ (wire b s) (wire a s)) s) v w ≡ meaning n s v (put b (xor (bit a w) (bit b w)) w)
+    meaning n (setWire b (_⊕_ (wire b s) (wire a s)) s) v w ≡ meaning n s v (put b (xor (bit a w) (bit b w)) w)
 meaning-add n a b s v w la lb ne long =
-    meaning-set n b (_⊻_ (wire b s) (wire a s)) (xor (bit a w) (bit b w)) s v w lb long
+    meaning-set n b (_⊕_ (wire b s) (wire a s)) (xor (bit a w) (bit b w)) s v w lb long
     (λ x others.
-    rw (value-⊻, others a la ne) (
+    rw (value-⊕, others a la ne) (
       xor-solve (value (wire b s) x) (bit a w) (bit b w),
       λ h. xor-comm (value (wire b s) x) (bit a w) ∙ (ap (xor (bit a w)) h ∙ xor-cancel (bit a w) (bit b w)),
     ))
@@ -340,8 +340,8 @@ turn-cond false k z = sym (ω^-0ω k)
 -- where the new variable shows the output's bit, the old wire's two values give the two summands of H
 pub path-split : (n u q : ℕ) (wires : List Parity) (φ : Phase) (w x : ℕ) → q < n → length wires ≡ n → bit u x ≡ bit q w →
     path n (set wires q (of (single u)))
-    (addPhase 6 (_⊻_ (getD wires q (of 0)) (of (single u))) (addPhase 2 (of (single u)) (addPhase 2 (getD wires q (of 0)) φ))) w x
-    ≡ path n wires φ (put q false w) x ⊕ ω^ (4 * digit (bit q w)) (path n wires φ (put q true w) x)
+    (addPhase 6 (_⊕_ (getD wires q (of 0)) (of (single u))) (addPhase 2 (of (single u)) (addPhase 2 (getD wires q (of 0)) φ))) w x
+    ≡ path n wires φ (put q false w) x +ω ω^ (4 * digit (bit q w)) (path n wires φ (put q true w) x)
 unfolding ω^
 path-split n u q wires φ w x l long h =
     rw (phasor-product (getD wires q (of 0)) (of (single u)) φ x, value-single u x, h) (go (value (getD wires q (of 0)) x) refl)
@@ -354,10 +354,10 @@ path-split n u q wires φ w x l long h =
 
     go : (t : Bool) → value (getD wires q (of 0)) x ≡ t →
         cond (reads n (set wires q (of (single u))) w x) (ω^ (4 * digit (t && bit q w)) (phasor φ x)) 0ω
-        ≡ path n wires φ (put q false w) x ⊕ ω^ (4 * digit (bit q w)) (path n wires φ (put q true w) x)
+        ≡ path n wires φ (put q false w) x +ω ω^ (4 * digit (bit q w)) (path n wires φ (put q true w) x)
     go true e =
-        rw (shown true e, missed true e, turn-cond (reads n wires (put q true w) x) (4 * digit (bit q w)) (phasor φ x)) (sym (⊕-idl _))
-    go false e = rw (shown false e, missed false e, ω^-0ω) (sym (⊕-idr _))
+        rw (shown true e, missed true e, turn-cond (reads n wires (put q true w) x) (4 * digit (bit q w)) (phasor φ x)) (sym (+ω-idl _))
+    go false e = rw (shown false e, missed false e, ω^-0ω) (sym (+ω-idr _))
 
 -- a set holds no variable from m on
 abbrev pub Below : ℕ → ℕ → Type 0
@@ -393,13 +393,13 @@ path-free n u wires φ w x out free =
 -- H: the new variable drops out, and leaves the two summands
 pub meaning-hadamard : (n q : ℕ) (s : PathSum) (v w : ℕ) → q < n → Fresh n s →
     meaning n (hadamard (n + length (s .live)) q s) v w
-    ≡ meaning n s v (put q false w) ⊕ ω^ (4 * digit (bit q w)) (meaning n s v (put q true w))
+    ≡ meaning n s v (put q false w) +ω ω^ (4 * digit (bit q w)) (meaning n s v (put q true w))
 unfolding meaning hadamard withPhase
 meaning-hadamard n q s v w l fresh =
     ap (λ (D : ℕ → Zω). D v) (sumOver-snoc (s .live) (n + length (s .live)) F)
     ∙ (ap (λ (D : ℕ → Zω). sumOver (s .live) D v) (both-pinned (n + length (s .live)) c F G turns free off on)
-    ∙ (sumOver-⊕ (s .live) (path n (s .wires) (s .phase) (put q false w)) _ v
-    ∙ ap (λ (z : Zω). sumOver (s .live) (path n (s .wires) (s .phase) (put q false w)) v ⊕ z)
+    ∙ (sumOver-+ω (s .live) (path n (s .wires) (s .phase) (put q false w)) _ v
+    ∙ ap (λ (z : Zω). sumOver (s .live) (path n (s .wires) (s .phase) (put q false w)) v +ω z)
     (sumOver-ω^ (4 * digit (bit q w)) (s .live) (path n (s .wires) (s .phase) (put q true w)) v)))
   where
     u : ℕ
@@ -409,7 +409,7 @@ meaning-hadamard n q s v w l fresh =
     F x = path n (set (s .wires) q (of (single u))) (product (wire q s) (of (single u)) s .phase) w x
 
     G : ℕ → Zω
-    G x = path n (s .wires) (s .phase) (put q false w) x ⊕ ω^ (4 * digit (bit q w)) (path n (s .wires) (s .phase) (put q true w) x)
+    G x = path n (s .wires) (s .phase) (put q false w) x +ω ω^ (4 * digit (bit q w)) (path n (s .wires) (s .phase) (put q true w) x)
 
     c : ℕ → Bool
     c x = xor (bit u x) (bit q w)
@@ -429,7 +429,7 @@ meaning-hadamard n q s v w l fresh =
     turns x = rw (bit-flip-same u x) (simp xor-trueˡ at (xor-assoc true (bit u x) (bit q w)))
 
     free : (x : ℕ) → G (flip u x) ≡ G x
-    free x = ap₂ (λ (y z : Zω). y ⊕ ω^ (4 * digit (bit q w)) z) (keeps (put q false w) x) (keeps (put q true w) x)
+    free x = ap₂ (λ (y z : Zω). y +ω ω^ (4 * digit (bit q w)) z) (keeps (put q false w) x) (keeps (put q true w) x)
 
     off : (x : ℕ) → c x ≡ false → F x ≡ G x
     off x e = path-split n u q (s .wires) (s .phase) w x l (fresh .width) (xor-solve (bit u x) (bit q w) false e ∙ xor-falseʳ (bit q w))
@@ -481,14 +481,14 @@ fresh-turn n c p s below fresh =
 -- so does a product of two such parities
 pub fresh-product : (n : ℕ) (p q : Parity) (s : PathSum) → Below (n + length (s .live)) (p .vars) → Below (n + length (s .live)) (q .vars) →
     Fresh n s → Fresh n (product p q s)
-unfolding withPhase _⊻_
+unfolding withPhase _⊕_
 fresh-product n p q s hp hq fresh =
-    fresh-turn n 6 (_⊻_ p q) (turnBy 2 q (turnBy 2 p s)) (below-△ (n + length (s .live)) (p .vars) (q .vars) hp hq)
+    fresh-turn n 6 (_⊕_ p q) (turnBy 2 q (turnBy 2 p s)) (below-△ (n + length (s .live)) (p .vars) (q .vars) hp hq)
     (fresh-turn n 2 q (turnBy 2 p s) hq (fresh-turn n 2 p s hp fresh))
 
 -- H brings the next path variable
 pub fresh-hadamard : (n q : ℕ) (s : PathSum) → q < n → Fresh n s → Fresh n (hadamard (n + length (s .live)) q s)
-unfolding hadamard withPhase _⊻_
+unfolding hadamard withPhase _⊕_
 fresh-hadamard n q s l fresh =
     record {
       live = rw longer (rw from-snoc (ap (λ (zs : List ℕ). zs ++ u ∷ []) (fresh .live)));
@@ -500,7 +500,7 @@ fresh-hadamard n q s l fresh =
           (old (wire i s .vars) (fresh .wires i k)));
       terms =
           rw longer
-          (add 6 (_⊻_ (wire q s) (of (single u))) _ (below-△ (n + suc (length (s .live))) (wire q s .vars) (single u) wire-below new)
+          (add 6 (_⊕_ (wire q s) (of (single u))) _ (below-△ (n + suc (length (s .live))) (wire q s .vars) (single u) wire-below new)
           (add 2 (of (single u)) _ new
           (add 2 (wire q s) (s .phase) wire-below (every-map _ _ (s .phase .terms) (λ t h. old (t .set) h) (fresh .terms)))));
     }
@@ -527,7 +527,7 @@ fresh-hadamard n q s l fresh =
 
 -- a gate keeps a sum fresh
 pub fresh-gate : (n : ℕ) (g : Gate) (s : PathSum) → Within n g → Fresh n s → Fresh n (gate 2 n g s)
-unfolding gate complement _⊻_ withPhase setWire addConstant
+unfolding gate complement _⊕_ withPhase setWire addConstant
 fresh-gate n (one X q) s l fresh = fresh-set n q (complement (wire q s)) s l (fresh .wires q l) fresh
 fresh-gate n (one Y q) s l fresh =
     let t = fresh-turn n 4 (wire q s) s (fresh .wires q l) fresh in
@@ -540,7 +540,7 @@ fresh-gate n (one T q) s l fresh = fresh-turn n 1 (wire q s) s (fresh .wires q l
 fresh-gate n (one T† q) s l fresh = fresh-turn n 7 (wire q s) s (fresh .wires q l) fresh
 fresh-gate n (one H q) s l fresh = fresh-hadamard n q s l fresh
 fresh-gate n (two CX a b) s l fresh =
-    fresh-set n b (_⊻_ (wire b s) (wire a s)) s (l .1)
+    fresh-set n b (_⊕_ (wire b s) (wire a s)) s (l .1)
     (below-△ (n + length (s .live)) (wire b s .vars) (wire a s .vars) (fresh .wires b (l .1)) (fresh .wires a (l .0))) fresh
 fresh-gate n (two CZ a b) s l fresh =
     fresh-product n (wire a s) (wire b s) s (fresh .wires a (l .0)) (fresh .wires b (l .1)) fresh
@@ -645,7 +645,7 @@ gate-step n v (one T q) ψ s l fresh same w lw = diagonal-step n v T 1 q ψ s re
 gate-step n v (one T† q) ψ s l fresh same w lw = diagonal-step n v T† 7 q ψ s refl l same w lw
 gate-step n v (one H q) ψ s l fresh same w lw =
     apply-H q ψ w
-    ∙ (ap₂ (λ (y z : Zω). y ⊕ ω^ (4 * digit (bit q w)) z)
+    ∙ (ap₂ (λ (y z : Zω). y +ω ω^ (4 * digit (bit q w)) z)
     (same (put q false w) (put-below n q false w l lw))
     (same (put q true w) (put-below n q true w l lw))
     ∙ sym (meaning-hadamard n q s v w l fresh))

@@ -13,7 +13,7 @@ use Rattle.gate_list.specs.Gate.{Gate, one, two, X, Y, Z, S, S†, T, T†, H, 
 use Rattle.amplitude.specs.Bits.{bit}
 use Rattle.amplitude.specs.Circuit.{tally, isT, tGates}
 use Rattle.phase_sum.specs.Sets.{single}
-use Rattle.phase_sum.specs.Parity.{Parity, of, _⊻_, replaceIn}
+use Rattle.phase_sum.specs.Parity.{Parity, of, _⊕_, replaceIn}
 use Rattle.phase_sum.specs.Phase.{Term, Phase, minus, keep, merge, addTerm, addConstant, addPhase, rebuild, inOdd}
 use Rattle.phase_sum.specs.Building.{PathSum, initial, wire, setWire, withPhase, product, hadamard, gate, gatesFrom, build}
 use Rattle.phase_sum.specs.Stepping.{replace, outOf, takeOut, turned}
@@ -155,7 +155,7 @@ noOdd-addPhase c p φ even e = oddIn-addPhase (λ u. ⊥) c p φ e (λ odd. omeg
 -- nor does 4 on a product of two parities
 noOdd-product : (u v : Parity) (s : PathSum) → NoOdd (s .phase .terms) → NoOdd (product u v s .phase .terms)
 unfolding withPhase
-noOdd-product u v s e = noOdd-addPhase 6 (_⊻_ u v) _ refl (noOdd-addPhase 2 v _ refl (noOdd-addPhase 2 u (s .phase) refl e))
+noOdd-product u v s e = noOdd-addPhase 6 (_⊕_ u v) _ refl (noOdd-addPhase 2 v _ refl (noOdd-addPhase 2 u (s .phase) refl e))
 
 -- nor does a gate other than T and its inverse
 noOdd-gate : (y n : ℕ) (g : Gate) (s : PathSum) → isT g ≡ 0 → NoOdd (s .phase .terms) → NoOdd (gate y n g s .phase .terms)

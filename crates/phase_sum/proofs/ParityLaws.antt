@@ -6,14 +6,14 @@ use Prim.Native.Nat.{ℕ}
 use Rattle.amplitude.specs.Bits.{bit, flip}
 use Rattle.amplitude.proofs.BitLaws.{bit-power, bit-power-other}
 use Rattle.phase_sum.specs.Sets.{_△_, single, parity}
-use Rattle.phase_sum.specs.Parity.{Parity, value, of, _⊻_, complement, rest, replaceIn}
+use Rattle.phase_sum.specs.Parity.{Parity, value, of, _⊕_, complement, rest, replaceIn}
 use Rattle.amplitude.proofs.XorLaws.{xor-falseʳ, xor-trueˡ, xor-self, xor-comm, xor-assoc, xor-cancel, xor-left-comm, xor-swap}
 use Rattle.phase_sum.proofs.SetLaws.{bit-△, parity-△, parity-single, parity-flip, parity-agree}
 
 -- the value of an exclusive or
-pub value-⊻ : (p q : Parity) (x : ℕ) → value (_⊻_ p q) x ≡ xor (value p x) (value q x)
-unfolding value _⊻_
-value-⊻ p q x = rw parity-△ (xor-swap (parity (p .vars) x) (parity (q .vars) x) (p .flipped) (q .flipped))
+pub value-⊕ : (p q : Parity) (x : ℕ) → value (_⊕_ p q) x ≡ xor (value p x) (value q x)
+unfolding value _⊕_
+value-⊕ p q x = rw parity-△ (xor-swap (parity (p .vars) x) (parity (q .vars) x) (p .flipped) (q .flipped))
 
 -- the value of a complement
 pub value-complement : (p : Parity) (x : ℕ) → value (complement p) x ≡ not (value p x)
@@ -55,12 +55,12 @@ unfolding replaceIn rest
 value-replaceIn z p w x e = go (bit z (w .vars)) refl
   where
     go : (b : Bool) → bit z (w .vars) ≡ b → value (replaceIn z p w) x ≡ value w x
-    go true h = rw h (rw (value-⊻, ← e) (xor-comm (value (rest z w) x) (bit z x) ∙ sym (value-rest z w x)))
+    go true h = rw h (rw (value-⊕, ← e) (xor-comm (value (rest z w) x) (bit z x) ∙ sym (value-rest z w x)))
     go false h = rw h
 
 -- a variable replaced by a parity without it is gone
 pub replaceIn-free : (z : ℕ) (p w : Parity) → bit z (p .vars) ≡ false → bit z (replaceIn z p w .vars) ≡ false
-unfolding replaceIn _⊻_
+unfolding replaceIn _⊕_
 replaceIn-free z p w f = go (bit z (w .vars)) refl
   where
     go : (b : Bool) → bit z (w .vars) ≡ b → bit z (replaceIn z p w .vars) ≡ false
@@ -72,7 +72,7 @@ pub replaceIn-bit-other :
     (v z : ℕ) (p w : Parity) →
     (v ≡ z → ⊥) →
     bit v (replaceIn z p w .vars) ≡ xor (bit v (w .vars)) (bit z (w .vars) && bit v (p .vars))
-unfolding replaceIn _⊻_
+unfolding replaceIn _⊕_
 replaceIn-bit-other v z p w ne = go (bit z (w .vars)) refl
   where
     go : (b : Bool) → bit z (w .vars) ≡ b → bit v (replaceIn z p w .vars) ≡ xor (bit v (w .vars)) (bit z (w .vars) && bit v (p .vars))

@@ -14,14 +14,14 @@ use Rattle.amplitude.specs.Bits.{bit, flip}
 use Rattle.amplitude.proofs.NumberLaws.{ω^-cong}
 use Rattle.amplitude.proofs.BitLaws.{bit-zero, bit-power-other}
 use Rattle.phase_sum.specs.Sets.{_△_, single, parity}
-use Rattle.phase_sum.specs.Parity.{Parity, value, of, _⊻_, rest, replaceIn}
+use Rattle.phase_sum.specs.Parity.{Parity, value, of, _⊕_, rest, replaceIn}
 use Rattle.phase_sum.specs.Phase.{Term, Phase, sumAt, phaseAt}
 use Rattle.phase_sum.specs.Building.{PathSum, wire, input}
 use Rattle.phase_sum.specs.Stepping.{replace}
 use Rattle.phase_sum.specs.Meaning.{both, phasor, closes, onDiagonal}
 use Rattle.amplitude.proofs.XorLaws.{xor-cancel, xor-trueˡ, xor-falseˡ, xor-falseʳ}
 use Rattle.phase_sum.proofs.SetLaws.{bit-△, △-comm, △-assoc, △-cancel}
-use Rattle.phase_sum.proofs.ParityLaws.{value-⊻, value-of, value-flip, rest-free, value-rest, value-replaceIn, replaceIn-free, replaceIn-absent}
+use Rattle.phase_sum.proofs.ParityLaws.{value-⊕, value-of, value-flip, rest-free, value-rest, value-replaceIn, replaceIn-free, replaceIn-absent}
 use Rattle.phase_sum.proofs.PhaseLaws.{sumBy, phaseAt-rebuild, sumAt-free, free-rebuild}
 use Rattle.phase_sum.proofs.Summing.{both-pinned}
 
@@ -52,13 +52,13 @@ phase-replace-free z p s x h =
     ap (λ (n : ℕ). replace z p s .phase .constant + n)
     (sumAt-free z _ x (free-rebuild z (λ u. replaceIn z p (of u)) _ _ (λ u. replaceIn-free z p (of u) h)))
 
--- replacing z, which w holds and p does not, by the rest of w ⊻ p turns w into p
+-- replacing z, which w holds and p does not, by the rest of w ⊕ p turns w into p
 pub replaceIn-rest :
     (z : ℕ) (w p : Parity) →
     bit z (p .vars) ≡ false →
-    bit z (_⊻_ w p .vars) ≡ true →
-    replaceIn z (rest z (_⊻_ w p)) w ≡ p
-unfolding replaceIn _⊻_ rest
+    bit z (_⊕_ w p .vars) ≡ true →
+    replaceIn z (rest z (_⊕_ w p)) w ≡ p
+unfolding replaceIn _⊕_ rest
 replaceIn-rest z w p f h =
     let held : bit z (w .vars) ≡ true = sym (xor-falseʳ (bit z (w .vars))) ∙ rw (← f, ← bit-△ z (w .vars) (p .vars)) h in
     rw held (λ i. record { vars = vars i; flipped = xor-cancel (w .flipped) (p .flipped) i })
@@ -96,7 +96,7 @@ input-free scratch q z l = go (bit q scratch)
 -- what closes at one assignment closes at another, of another sum, where each wire differs from its input alike
 pub closes-same :
     (scratch n : ℕ) (s t : PathSum) (x y : ℕ) →
-    ((q : ℕ) → q < n → value (_⊻_ (wire q s) (input scratch q)) x ≡ value (_⊻_ (wire q t) (input scratch q)) y) →
+    ((q : ℕ) → q < n → value (_⊕_ (wire q s) (input scratch q)) x ≡ value (_⊕_ (wire q t) (input scratch q)) y) →
     closes scratch n s x ≡ closes scratch n t y
 unfolding closes
 closes-same scratch zero s t x y h = refl
@@ -107,7 +107,7 @@ closes-same scratch (suc n) s t x y h =
 pub closes-open :
     (scratch n q : ℕ) (s : PathSum) (x : ℕ) →
     q < n →
-    value (_⊻_ (wire q s) (input scratch q)) x ≡ true →
+    value (_⊕_ (wire q s) (input scratch q)) x ≡ true →
     closes scratch n s x ≡ false
 unfolding closes
 closes-open scratch zero q s x l h = absurd (omega arith)
@@ -115,7 +115,7 @@ closes-open scratch (suc n) q s x l h = go (eqb q n) refl (closes-open scratch n
   where
     go :
         (b : Bool) → eqb q n ≡ b →
-        (q < n → value (_⊻_ (wire q s) (input scratch q)) x ≡ true → closes scratch n s x ≡ false) →
+        (q < n → value (_⊕_ (wire q s) (input scratch q)) x ≡ true → closes scratch n s x ≡ false) →
         closes scratch (suc n) s x ≡ false
     go true e below = rw (← eqb-true q n e, h) (and-false (closes scratch q s x))
     go false e below = rw (below (omega (arith, eqb-false q n e)) h)
@@ -142,8 +142,8 @@ unfolding onDiagonal
 onDiagonal-replace scratch n z p s x h =
     rw (closes-same scratch n (replace z p s) s x x (λ q l. same q), phasor-replace z p s x h)
   where
-    same : (q : ℕ) → value (_⊻_ (wire q (replace z p s)) (input scratch q)) x ≡ value (_⊻_ (wire q s) (input scratch q)) x
-    same q = simp (wire-replace, value-⊻, value-replaceIn z p (wire q s) x h)
+    same : (q : ℕ) → value (_⊕_ (wire q (replace z p s)) (input scratch q)) x ≡ value (_⊕_ (wire q s) (input scratch q)) x
+    same q = simp (wire-replace, value-⊕, value-replaceIn z p (wire q s) x h)
 
 -- what it adds after that does not depend on the path variable z, where p does not
 pub onDiagonal-replace-free :
@@ -158,10 +158,10 @@ onDiagonal-replace-free scratch n z p s x m h =
     free :
         (q : ℕ) →
         q < n →
-        value (_⊻_ (wire q (replace z p s)) (input scratch q)) (flip z x)
-        ≡ value (_⊻_ (wire q (replace z p s)) (input scratch q)) x
+        value (_⊕_ (wire q (replace z p s)) (input scratch q)) (flip z x)
+        ≡ value (_⊕_ (wire q (replace z p s)) (input scratch q)) x
     free q l =
-        simp (value-⊻, value-flip, wire-replace, replaceIn-free z p (wire q s) h, input-free scratch q z (omega arith), xor-falseˡ)
+        simp (value-⊕, value-flip, wire-replace, replaceIn-free z p (wire q s) h, input-free scratch q z (omega arith), xor-falseˡ)
 
 -- where a parity is 0, z has the value of the rest
 pub rest-value : (z : ℕ) (q : Parity) (x : ℕ) → value q x ≡ false → bit z x ≡ value (rest z q) x
@@ -178,10 +178,10 @@ pub pin-law :
     (scratch n q z : ℕ) (s : PathSum) →
     q < n →
     n ≤ z →
-    bit z (_⊻_ (wire q s) (input scratch q) .vars) ≡ true →
-    both z (onDiagonal scratch n s) ≡ onDiagonal scratch n (replace z (rest z (_⊻_ (wire q s) (input scratch q))) s)
+    bit z (_⊕_ (wire q s) (input scratch q) .vars) ≡ true →
+    both z (onDiagonal scratch n s) ≡ onDiagonal scratch n (replace z (rest z (_⊕_ (wire q s) (input scratch q))) s)
 pin-law scratch n q z s l m h =
-    let Q = _⊻_ (wire q s) (input scratch q) in
+    let Q = _⊕_ (wire q s) (input scratch q) in
     both-pinned
     z
     (value Q)
@@ -196,8 +196,8 @@ pin-law scratch n q z s l m h =
 pub pinned-wire :
     (scratch q z : ℕ) (s : PathSum) →
     q < z →
-    bit z (_⊻_ (wire q s) (input scratch q) .vars) ≡ true →
-    wire q (replace z (rest z (_⊻_ (wire q s) (input scratch q))) s) ≡ input scratch q
+    bit z (_⊕_ (wire q s) (input scratch q) .vars) ≡ true →
+    wire q (replace z (rest z (_⊕_ (wire q s) (input scratch q))) s) ≡ input scratch q
 pinned-wire scratch q z s l h =
-    wire-replace z (rest z (_⊻_ (wire q s) (input scratch q))) q s
+    wire-replace z (rest z (_⊕_ (wire q s) (input scratch q))) q s
     ∙ replaceIn-rest z (wire q s) (input scratch q) (input-free scratch q z l) h

@@ -12,7 +12,7 @@ use Rattle.gate_list.specs.Gate.{Gate, one, two, X, Y, Z, S, S†, T, T†, H, 
 use Rattle.amplitude.specs.Circuit.{tally, isH, hGates}
 use Rattle.amplitude.proofs.Linear.{tally-inverse}
 use Rattle.phase_sum.specs.Sets.{single}
-use Rattle.phase_sum.specs.Parity.{Parity, of, _⊻_, replaceIn}
+use Rattle.phase_sum.specs.Parity.{Parity, of, _⊕_, replaceIn}
 use Rattle.phase_sum.specs.Phase.{addConstant, addPhase}
 use Rattle.phase_sum.specs.Building.{PathSum, initial, wire, setWire, withPhase, product, hadamard, gate, gatesFrom, build}
 use Rattle.phase_sum.specs.Stepping.{replace, outOf, takeOut, turned}
@@ -29,7 +29,7 @@ unfolding withPhase
 terms-product u v s =
     let one = addPhase 2 u (s .phase) in
     let two = addPhase 2 v one in
-    omega (arith, length-addPhase 2 u (s .phase), length-addPhase 2 v one, length-addPhase 6 (_⊻_ u v) two)
+    omega (arith, length-addPhase 2 u (s .phase), length-addPhase 2 v one, length-addPhase 6 (_⊕_ u v) two)
 
 -- a gate adds at most its room
 room-gate : (y n : ℕ) (g : Gate) (s : PathSum) → size (gate y n g s) ≤ roomFor g + size s

@@ -7,9 +7,9 @@ use Prim.Native.Nat.{ℕ, zero, suc, _+_, _*_, _/_, _%_, _<_}
 use native.Mathlib.Omega.{arith}
 use lib.Dec.{eqb}
 use borrow.Author.Tests.{eqb-true, eqb-false}
-use Rattle.amplitude.specs.Number.{Zω, 0ω, 1ω, _⊕_, ω^, mul√2, √2^}
+use Rattle.amplitude.specs.Number.{Zω, 0ω, 1ω, _+ω_, ω^, mul√2, √2^}
 use Rattle.amplitude.specs.Bits.{digit, bit, flip}
-use Rattle.amplitude.proofs.NumberLaws.{⊕-comm, ⊕-invr, ω^-add, ω^-cong, ω^-four, ω^-eight, neg-neg, mul√2-twice}
+use Rattle.amplitude.proofs.NumberLaws.{+ω-comm, +ω-invr, ω^-add, ω^-cong, ω^-four, ω^-eight, neg-neg, mul√2-twice}
 use Rattle.amplitude.proofs.BitLaws.{bit-flip-same}
 use Rattle.amplitude.proofs.Linear.{ω^-zero}
 use Rattle.phase_sum.specs.Sets.{parity}
@@ -27,21 +27,21 @@ use Rattle.phase_sum.proofs.Replacing.{phasor-cong, phasor-replace, pha
 use Rattle.phase_sum.proofs.TakingOut.{coeffs-even, oddHalves-free, takeOut-free, phase-takeOut}
 
 -- 1 + 1 = √2√2
-pub plus-one : (z : Zω) → z ⊕ z ≡ √2^ 2 z
+pub plus-one : (z : Zω) → z +ω z ≡ √2^ 2 z
 unfolding √2^
 plus-one z = sym (mul√2-twice z)
 
 -- 1 + i = √2 ω
-pub plus-i : (z : Zω) → z ⊕ ω^ 2 z ≡ √2^ 1 (ω^ 1 z)
+pub plus-i : (z : Zω) → z +ω ω^ 2 z ≡ √2^ 1 (ω^ 1 z)
 unfolding √2^ mul√2
-plus-i z = simp (← ω^-add, ω^-four, neg-neg) (⊕-comm z (ω^ 2 z))
+plus-i z = simp (← ω^-add, ω^-four, neg-neg) (+ω-comm z (ω^ 2 z))
 
 -- 1 − 1 = 0
-pub minus-one : (z : Zω) → z ⊕ ω^ 4 z ≡ 0ω
-minus-one z = rw ω^-four (⊕-invr z)
+pub minus-one : (z : Zω) → z +ω ω^ 4 z ≡ 0ω
+minus-one z = rw ω^-four (+ω-invr z)
 
 -- 1 − i = √2 ω⁷
-pub minus-i : (z : Zω) → z ⊕ ω^ 6 z ≡ √2^ 1 (ω^ 7 z)
+pub minus-i : (z : Zω) → z +ω ω^ 6 z ≡ √2^ 1 (ω^ 7 z)
 unfolding √2^ mul√2
 minus-i z = simp (← ω^-add, ω^-eight) (rw (ω^-add 4 6 z, ω^-four, neg-neg))
 
@@ -83,17 +83,17 @@ phasor-one y s x ready e =
 pub both-ready :
     (y : ℕ) (s : PathSum) (x : ℕ) →
     inOdd y (s .phase .terms) ≡ false →
-    both y (phasor (s .phase)) x ≡ phasor (takeOut y s .phase) x ⊕ ω^ (turns y s x) (phasor (takeOut y s .phase) x)
+    both y (phasor (s .phase)) x ≡ phasor (takeOut y s .phase) x +ω ω^ (turns y s x) (phasor (takeOut y s .phase) x)
 unfolding both
 both-ready y s x ready = go (bit y x) refl
   where
     go :
         (b : Bool) →
         bit y x ≡ b →
-        both y (phasor (s .phase)) x ≡ phasor (takeOut y s .phase) x ⊕ ω^ (turns y s x) (phasor (takeOut y s .phase) x)
+        both y (phasor (s .phase)) x ≡ phasor (takeOut y s .phase) x +ω ω^ (turns y s x) (phasor (takeOut y s .phase) x)
     go true e =
         rw (phasor-one y s x ready e, phasor-zero y s (flip y x) ready (bit-flip-same y x ∙ ap not e), phasor-takeOut-free y s x)
-        (⊕-comm _ _)
+        (+ω-comm _ _)
     go false e =
         rw (
           phasor-zero y s x ready e,
@@ -161,7 +161,7 @@ pub turn-number :
     (c : ℕ) (l : Bool) (z : Zω) →
     c < 4 →
     c % 2 ≡ 1 →
-    z ⊕ ω^ (2 * c + 4 * digit l) z ≡ √2^ 1 (ω^ (cond (eqb c 1) 6 2 * digit l + cond (eqb c 1) 1 7) z)
+    z +ω ω^ (2 * c + 4 * digit l) z ≡ √2^ 1 (ω^ (cond (eqb c 1) 6 2 * digit l + cond (eqb c 1) 1 7) z)
 turn-number zero l z m o = absurd (omega arith)
 turn-number (suc zero) true z m o = minus-i z
 turn-number (suc zero) false z m o = plus-i z
@@ -175,7 +175,7 @@ pub constraint-number :
     (c : ℕ) (l : Bool) (z : Zω) →
     c < 4 →
     c % 2 ≡ 0 →
-    z ⊕ ω^ (2 * c + 4 * digit l) z ≡ cond (xor l (eqb (c / 2 % 2) 1)) 0ω (√2^ 2 z)
+    z +ω ω^ (2 * c + 4 * digit l) z ≡ cond (xor l (eqb (c / 2 % 2) 1)) 0ω (√2^ 2 z)
 unfolding xor
 constraint-number zero true z m o = minus-one z
 constraint-number zero false z m o = rw ω^-zero (plus-one z)

@@ -7,9 +7,9 @@ use mathlib.Core.List.{List, [], _∷_, _++_}
 use Prim.Native.Nat.{ℕ, _<_, _≤_}
 use native.Mathlib.Omega.{arith}
 use borrow.Author.Tests.{eq-eqb, ne-eqb}
-use Rattle.amplitude.specs.Number.{Zω, 0ω, _⊕_, ω^, √2^}
+use Rattle.amplitude.specs.Number.{Zω, 0ω, _+ω_, ω^, √2^}
 use Rattle.amplitude.specs.Bits.{bit, flip}
-use Rattle.amplitude.proofs.NumberLaws.{⊕-idl, ⊕-idr, ⊕-swap}
+use Rattle.amplitude.proofs.NumberLaws.{+ω-idl, +ω-idr, +ω-swap}
 use Rattle.amplitude.proofs.BitLaws.{bit-flip-other, flip-comm}
 use Rattle.amplitude.proofs.Linear.{Linear, linear-ω^, linear-√2^}
 use Rattle.phase_sum.specs.Sets.{without, Among, here, there}
@@ -32,23 +32,23 @@ pub sumOver-√2^ : (k : ℕ) (zs : List ℕ) (F : ℕ → Zω) (x : ℕ) → su
 sumOver-√2^ k zs F x = sumOver-linear (√2^ k) (linear-√2^ k) zs F x
 
 -- a sum of sums of two values
-pub sumOver-⊕ : (zs : List ℕ) (F G : ℕ → Zω) (x : ℕ) → sumOver zs (λ y. F y ⊕ G y) x ≡ sumOver zs F x ⊕ sumOver zs G x
+pub sumOver-+ω : (zs : List ℕ) (F G : ℕ → Zω) (x : ℕ) → sumOver zs (λ y. F y +ω G y) x ≡ sumOver zs F x +ω sumOver zs G x
 unfolding sumOver both
-sumOver-⊕ [] F G x = refl
-sumOver-⊕ (z ∷ zs) F G x =
-    ap (λ (D : ℕ → Zω). sumOver zs D x) (fun-ext (λ y. ⊕-swap (F y) (G y) (F (flip z y)) (G (flip z y))))
-    ∙ sumOver-⊕ zs (both z F) (both z G) x
+sumOver-+ω [] F G x = refl
+sumOver-+ω (z ∷ zs) F G x =
+    ap (λ (D : ℕ → Zω). sumOver zs D x) (fun-ext (λ y. +ω-swap (F y) (G y) (F (flip z y)) (G (flip z y))))
+    ∙ sumOver-+ω zs (both z F) (both z G) x
 
 -- a sum of zeros
 pub sumOver-zero : (zs : List ℕ) (x : ℕ) → sumOver zs (λ y. 0ω) x ≡ 0ω
 unfolding sumOver both
 sumOver-zero [] x = refl
-sumOver-zero (z ∷ zs) x = ap (λ (G : ℕ → Zω). sumOver zs G x) (fun-ext (λ y. ⊕-idl 0ω)) ∙ sumOver-zero zs x
+sumOver-zero (z ∷ zs) x = ap (λ (G : ℕ → Zω). sumOver zs G x) (fun-ext (λ y. +ω-idl 0ω)) ∙ sumOver-zero zs x
 
 -- two variables may be added over in either order
 pub both-both : (y z : ℕ) (F : ℕ → Zω) → both y (both z F) ≡ both z (both y F)
 unfolding both
-both-both y z F = fun-ext (λ x. rw (flip-comm z y x) (⊕-swap (F x) (F (flip z x)) (F (flip y x)) (F (flip y (flip z x)))))
+both-both y z F = fun-ext (λ x. rw (flip-comm z y x) (+ω-swap (F x) (F (flip z x)) (F (flip y x)) (F (flip y (flip z x)))))
 
 -- one more variable may be added over before or after the others
 pub sumOver-both : (z : ℕ) (zs : List ℕ) (F : ℕ → Zω) → sumOver zs (both z F) ≡ both z (sumOver zs F)
@@ -78,7 +78,7 @@ unfolding sumOver both
 sumOver-on n [] F G v path same = same v (λ q l. refl)
 sumOver-on n (z ∷ zs) F G v path same =
     sumOver-on n zs (both z F) (both z G) v (λ u m. path u (there m))
-    (λ y inputs. ap₂ _⊕_ (same y inputs) (same (flip z y) (λ q l. bit-flip-other q z y (apart q l) ∙ inputs q l)))
+    (λ y inputs. ap₂ _+ω_ (same y inputs) (same (flip z y) (λ q l. bit-flip-other q z y (apart q l) ∙ inputs q l)))
   where
     apart : (q : ℕ) → q < n → q ≡ z → ⊥
     apart q l e = let m : n ≤ z = path z here in omega arith
@@ -89,6 +89,6 @@ pub both-pinned : (z : ℕ) (c : ℕ → Bool) (F G : ℕ → Zω) → ((x : ℕ
 unfolding both
 both-pinned z c F G turns free off on = fun-ext (λ x. go x (c x) refl)
   where
-    go : (x : ℕ) (t : Bool) → c x ≡ t → F x ⊕ F (flip z x) ≡ G x
-    go x false e = rw (off x e, on (flip z x) (turns x ∙ ap not e)) (⊕-idr (G x))
-    go x true e = rw (on x e, off (flip z x) (turns x ∙ ap not e), free x) (⊕-idl (G x))
+    go : (x : ℕ) (t : Bool) → c x ≡ t → F x +ω F (flip z x) ≡ G x
+    go x false e = rw (off x e, on (flip z x) (turns x ∙ ap not e)) (+ω-idr (G x))
+    go x true e = rw (on x e, off (flip z x) (turns x ∙ ap not e), free x) (+ω-idl (G x))

@@ -1,5 +1,5 @@
 -- Taking a ready variable y out of the phase: what is left, and what y adds where it is 1. With each coefficient of a term that
--- holds y even, a term c on y ⊕ p is c on p, and y times c − 2cp, where −2c counts as 4 times half of c, modulo 8.
+-- holds y even, a term c on y +ω p is c on p, and y times c − 2cp, where −2c counts as 4 times half of c, modulo 8.
 -- Assumes nothing.
 use mathlib.Core.Path.{_≡_, refl, sym, _∙_, ap}
 use mathlib.Core.Bool.{Bool, true, false, not, cond, _&&_, _||_, xor, true≢false, and-false}

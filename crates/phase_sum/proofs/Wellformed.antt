@@ -17,7 +17,7 @@ use Rattle.amplitude.specs.Bits.{bit}
 use Rattle.amplitude.specs.Circuit.{tally, isH, hGates}
 use Rattle.amplitude.proofs.BitLaws.{bit-zero, bit-power-other}
 use Rattle.phase_sum.specs.Sets.{_△_, single, without, from, Among, here, there, firstIn}
-use Rattle.phase_sum.specs.Parity.{Parity, of, _⊻_, complement, rest, replaceIn}
+use Rattle.phase_sum.specs.Parity.{Parity, of, _⊕_, complement, rest, replaceIn}
 use Rattle.phase_sum.specs.Phase.{Term, Phase, addConstant, addPhase, rebuild}
 use Rattle.phase_sum.specs.Building.{PathSum, input, initial, wire, setWire, withPhase, turnBy, product, hadamard, gate, gatesFrom, build}
 use Rattle.phase_sum.specs.Stepping.{replace, outOf, oddHalves, takeOut, turned}
@@ -95,9 +95,9 @@ sound-product :
     Holds n live (v .vars) →
     Sound n live (s .phase) →
     Sound n live (product u v s .phase)
-unfolding withPhase _⊻_
+unfolding withPhase _⊕_
 sound-product n live u v s hu hv h =
-    sound-addPhase n live 6 (_⊻_ u v) _ (holds-△ n live (u .vars) (v .vars) hu hv)
+    sound-addPhase n live 6 (_⊕_ u v) _ (holds-△ n live (u .vars) (v .vars) hu hv)
     (sound-addPhase n live 2 v _ hv (sound-addPhase n live 2 u _ hu h))
 
 -- a phase rebuilt is sound where each set is sent to inputs and variables live afterwards
@@ -173,7 +173,7 @@ held-hadamard n v q s h = (
 
 -- so does every gate
 held-gate : (y n : ℕ) (g : Gate) (s : PathSum) → Held n s → Held n (gate y n g s)
-unfolding gate setWire withPhase complement _⊻_
+unfolding gate setWire withPhase complement _⊕_
 held-gate y n (one X q) s h = held-setWire n q (complement (wire q s)) s (h .1 q) h
 held-gate y n (one Y q) s h =
     let t = turnBy 4 (wire q s) s in
@@ -187,7 +187,7 @@ held-gate y n (one T q) s h = held-turn n 1 q s h
 held-gate y n (one T† q) s h = held-turn n 7 q s h
 held-gate y n (one H q) s h = held-hadamard n (n + length (s .live)) q s h
 held-gate y n (two CX a b) s h =
-    held-setWire n b (_⊻_ (wire b s) (wire a s)) s (holds-△ n (s .live) (wire b s .vars) (wire a s .vars) (h .1 b) (h .1 a)) h
+    held-setWire n b (_⊕_ (wire b s) (wire a s)) s (holds-△ n (s .live) (wire b s .vars) (wire a s .vars) (h .1 b) (h .1 a)) h
 held-gate y n (two CZ a b) s h = (sound-product n (s .live) (wire a s) (wire b s) s (h .1 a) (h .1 b) (h .0), h .1)
 held-gate y n (two SWAP a b) s h =
     held-setWire n b (wire a s) (setWire a (wire b s) s) (h .1 a) (held-setWire n a (wire b s) s (h .1 b) h)
@@ -306,14 +306,14 @@ holds-replaceIn :
     Holds n live (q .vars) →
     Holds n live (w .vars) →
     Holds n (without z live) (replaceIn z (rest z q) w .vars)
-unfolding replaceIn rest _⊻_
+unfolding replaceIn rest _⊕_
 holds-replaceIn n z live q w hz hq hw =
     holds-without n z live (replaceIn z (rest z q) w .vars) (replaceIn-free z (rest z q) w (rest-free z q hz)) (go (bit z (w .vars)))
   where
     out : (s : ℕ) → Holds n live s → Holds n live (s △ single z)
     out s hs = holds-△ n live s (single z) hs (holds-single n live z (hq z hz))
 
-    go : (b : Bool) → Holds n live (cond b (_⊻_ (record { vars = w .vars △ single z; flipped = w .flipped }) (rest z q)) w .vars)
+    go : (b : Bool) → Holds n live (cond b (_⊕_ (record { vars = w .vars △ single z; flipped = w .flipped }) (rest z q)) w .vars)
     go true = holds-△ n live (w .vars △ single z) (q .vars △ single z) (out (w .vars) hw) (out (q .vars) hq)
     go false = hw
 
@@ -419,8 +419,8 @@ holds-oddHalves y {n} {s} g = holds-halves n y (s .live) (s .phase .terms) (g .t
 
 -- a wire's mismatch with its input holds only inputs and live variables
 pub holds-mismatch :
-    (scratch n q : ℕ) (s : PathSum) → q < n → GoodWires n s → Holds n (s .live) (_⊻_ (wire q s) (input scratch q) .vars)
-unfolding _⊻_
+    (scratch n q : ℕ) (s : PathSum) → q < n → GoodWires n s → Holds n (s .live) (_⊕_ (wire q s) (input scratch q) .vars)
+unfolding _⊕_
 holds-mismatch scratch n q s l h =
     holds-△ n (s .live) (wire q s .vars) (input scratch q .vars) (h q) (holds-input scratch n (s .live) q l)
 

@@ -8,7 +8,7 @@ use lib.ListN.{length, getD, set}
 use Rattle.gate_list.specs.Gate.{Gate, one, two, X, Y, Z, S, S†, T, T†, H, CX, CZ, SWAP}
 use Rattle.amplitude.specs.Bits.{bit}
 use Rattle.phase_sum.specs.Sets.{single, from}
-use Rattle.phase_sum.specs.Parity.{Parity, of, _⊻_, complement}
+use Rattle.phase_sum.specs.Parity.{Parity, of, _⊕_, complement}
 use Rattle.phase_sum.specs.Phase.{Phase, addConstant, addPhase}
 
 -- the path sum: its phase, the wires' parities by qubit, and the path variables that are summed over, in rising order
@@ -41,7 +41,7 @@ turnBy c p s = withPhase (addPhase c p (s .phase)) s
 
 -- 4 on a product of two parities, by 4uv = 2u + 2v − 2(u ⊕ v)
 abbrev pub product : Parity → Parity → PathSum → PathSum
-product u v s = turnBy 6 (_⊻_ u v) (turnBy 2 v (turnBy 2 u s))
+product u v s = turnBy 6 (u ⊕ v) (turnBy 2 v (turnBy 2 u s))
 
 -- H on wire q: the new path variable v comes in
 unfoldable pub hadamard : ℕ → ℕ → PathSum → PathSum
@@ -61,7 +61,7 @@ gate y n (one S† q) s = turnBy 6 (wire q s) s
 gate y n (one T q) s = turnBy 1 (wire q s) s
 gate y n (one T† q) s = turnBy 7 (wire q s) s
 gate y n (one H q) s = hadamard (n + length (s .live)) q s
-gate y n (two CX a b) s = setWire b (_⊻_ (wire b s) (wire a s)) s
+gate y n (two CX a b) s = setWire b (wire b s ⊕ wire a s) s
 gate y n (two CZ a b) s = product (wire a s) (wire b s) s
 gate y n (two SWAP a b) s = setWire b (wire a s) (setWire a (wire b s) s)
 

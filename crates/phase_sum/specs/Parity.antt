@@ -5,6 +5,8 @@ use mathlib.Core.Bool.{Bool, true, false, cond, xor}
 use Rattle.amplitude.specs.Bits.{bit}
 use Rattle.phase_sum.specs.Sets.{_△_, single, parity}
 
+infixl 60 _⊕_
+
 -- the parity of the set's variables, complemented where the constant is 1
 pub record Parity : Type 0 where
   pub vars : ℕ
@@ -18,8 +20,8 @@ abbrev pub of : ℕ → Parity
 of s = record { vars = s; flipped = false }
 
 -- the exclusive or of two parities
-unfoldable pub _⊻_ : Parity → Parity → Parity
-_⊻_ p q = record { vars = p .vars △ q .vars; flipped = xor (p .flipped) (q .flipped) }
+unfoldable pub _⊕_ : Parity → Parity → Parity
+p ⊕ q = record { vars = p .vars △ q .vars; flipped = xor (p .flipped) (q .flipped) }
 
 -- the complement
 unfoldable pub complement : Parity → Parity
@@ -31,4 +33,4 @@ rest z q = record { vars = q .vars △ single z; flipped = q .flipped }
 
 -- a parity with the variable z replaced by the parity p
 unfoldable pub replaceIn : ℕ → Parity → Parity → Parity
-replaceIn z p w = cond (bit z (w .vars)) (_⊻_ (record { vars = w .vars △ single z; flipped = w .flipped }) p) w
+replaceIn z p w = cond (bit z (w .vars)) (record { vars = w .vars △ single z; flipped = w .flipped } ⊕ p) w
