@@ -17,9 +17,9 @@ use Rattle.phase_sum.specs.Phase.{inOdd}
 use Rattle.phase_sum.proofs.Wellformed.{Good}
 use Rattle.phase_sum.proofs.Evenness.{OddIn, Inputs}
 use Rattle.comparison.specs.Reduction.{End, reduceFrom, reduceEnd}
-use Rattle.comparison.specs.Steps.{Steps}
+use Rattle.comparison.specs.Steps.{Steps, Blocked}
 use Rattle.comparison.specs.Verdict.{candidates, firstDiffering, Verdict, equal, different, undecided, Result, left, result, blockedInput, searched, judge}
-use Rattle.comparison.proofs.Reducing.{reduce-steps, reduce-stops, even-decides}
+use Rattle.comparison.proofs.Reducing.{reduce-steps, reduce-stops, even-decides, reduce-blocks}
 
 -- the two ways on from a pinned sum: reduced where pinning went through, left as it is where pinning was blocked
 pub data Reduced (p : End) : End → Type 0 where
@@ -48,7 +48,7 @@ pub reduced-through : {p e : End} → Reduced p e → e .blockedBy ≡ none → 
 reduced-through (further h) free = h
 reduced-through (halted h) free = free
 
--- at such an end no live variable is ready
+-- at an end that is not blocked no live variable is ready
 pub reduced-stops :
     (n : ℕ) {p e : End}
     → Reduced p e
@@ -60,7 +60,12 @@ pub reduced-stops :
 reduced-stops n {p} (further h) good free = reduce-stops n (length (p .sum .live)) (p .sum) (p .counts) good (omega arith) free
 reduced-stops n (halted {q} h) good free = absurd (Option·some-ne-none q (sym h ∙ free))
 
--- and none is left where every odd coefficient of the pinned sum is on inputs alone
+-- at an end that a step blocks, a ready variable's step cannot be taken
+pub reduced-blocked : {p e : End} {q : Parity} → Reduced p e → p .blockedBy ≡ none → e .blockedBy ≡ some q → Blocked (e .sum) q
+reduced-blocked {p} {q} (further h) through b = reduce-blocks (length (p .sum .live)) (p .sum) (p .counts) q b
+reduced-blocked (halted {q} h) through b = absurd (Option·some-ne-none q (sym h ∙ through))
+
+-- at an end that is not blocked none is left, where every odd coefficient of the pinned sum is on inputs alone
 pub reduced-even :
     (n : ℕ) {p e : End}
     → Reduced p e

@@ -27,7 +27,7 @@ use Rattle.phase_sum.proofs.Wellformed.{Good, good-takeOut, live-takeOut, good-
 use Rattle.phase_sum.proofs.Evenness.{OddIn, Inputs, even-takeOut, even-turned, even-replace, even-ready}
 use Rattle.phase_sum.proofs.Roominess.{terms-takeOut, terms-turned, terms-replace}
 use Rattle.comparison.specs.Reduction.{Counts, addSum, addTurn, addJoin, End, stops, blocks, isZero, Next, goes, stuck, stepWith, stepAt, reduceFrom, factor}
-use Rattle.comparison.specs.Steps.{Ready, cOf, lOf, Step, sums, turns, joins, Steps, more}
+use Rattle.comparison.specs.Steps.{Ready, cOf, lOf, Step, sums, turns, joins, Steps, more, Blocked}
 use Rattle.phase_sum.proofs.ParityLaws.{value-agree}
 
 -- what steps from s with counts c to t with counts d keep
@@ -112,18 +112,10 @@ steps-keep n s c u e g (more {t} {d} before step) =
       room = omega arith;
     }
 
--- a ready variable whose constraint holds no live variable: it blocks the reduction by the parity q
-pub record Stuck (s : PathSum) (q : Parity) : Type 0 where
-  pub y : ℕ
-  pub ready : Ready y s
-  pub kind : kindOf (cOf y s) (lOf y s) ≡ constraint
-  pub same : q ≡ constrained (cOf y s) (lOf y s)
-  pub free : firstIn (takeOut y s .live) (lOf y s) ≡ none
-
 -- what comes of a ready variable: a step, or a parity that blocks
 data Outcome (s : PathSum) (c : Counts) : Next → Type 0 where
   takes : {t : PathSum} {d : Counts} → Step s c t d → Outcome s c (goes t d)
-  blocked : {q : Parity} → Stuck s q → Outcome s c (stuck q)
+  blocked : {q : Parity} → Blocked s q → Outcome s c (stuck q)
 
 -- a ready variable has one of the two outcomes
 outcome : (y : ℕ) (s : PathSum) (c : Counts) → Ready y s → Outcome s c (stepAt y s c)
@@ -136,7 +128,7 @@ outcome y s c ready = go (kindOf (cOf y s) (lOf y s)) refl
         → firstIn (takeOut y s .live) (lOf y s) ≡ o
         → Outcome s c (stepAt y s c)
     constrains h none f =
-        rw (h, stepWith, f) (blocked (record { y = y; ready = ready; kind = h; same = refl; free = f }))
+        rw (h, stepWith, f) (blocked (record { y = y; ready = ready; kind = h; same = refl; free = firstIn-none (takeOut y s .live) (lOf y s) f }))
     constrains h (some z) f =
         let found = firstIn-some (takeOut y s .live) (lOf y s) z f in
         rw (h, stepWith, f) (takes (joins y z ready h (found .0) (found .1)))
@@ -185,7 +177,7 @@ NoneReady s = (y : ℕ) → Among y (s .live) → inOdd y (s .phase .terms) ≡ 
 data Run : ℕ → PathSum → Counts → End → Type 0 where
   spent : {s : PathSum} {c : Counts} → Run zero s c (stops s c)
   idle : {m : ℕ} {s : PathSum} {c : Counts} → NoneReady s → Run (suc m) s c (stops s c)
-  halt : {m : ℕ} {s : PathSum} {c : Counts} {q : Parity} → Stuck s q → Run (suc m) s c (blocks q s c)
+  halt : {m : ℕ} {s : PathSum} {c : Counts} {q : Parity} → Blocked s q → Run (suc m) s c (blocks q s c)
   next : {m : ℕ} {s t : PathSum} {c d : Counts} {e : End} → Step s c t d → Run m t d e → Run (suc m) s c e
 
 -- the reduction is such a run
@@ -227,7 +219,7 @@ pub reduce-steps : (m : ℕ) (s : PathSum) (c : Counts) → Steps s c (reduceFro
 reduce-steps m s c = run-steps (run m s c)
 
 -- a run that is blocked ends where a variable is stuck
-run-blocks : {m : ℕ} {s : PathSum} {c : Counts} {e : End} {q : Parity} → Run m s c e → e .blockedBy ≡ some q → Stuck (e .sum) q
+run-blocks : {m : ℕ} {s : PathSum} {c : Counts} {e : End} {q : Parity} → Run m s c e → e .blockedBy ≡ some q → Blocked (e .sum) q
 run-blocks {q} spent b = absurd (Option·none-ne-some q b)
 run-blocks {q} (idle none-ready) b = absurd (Option·none-ne-some q b)
 run-blocks {s} {q} (halt {q = p} h) b = rw (Option·some-injective p q b) at h
@@ -235,7 +227,7 @@ run-blocks (next step r) b = run-blocks r b
 
 -- so where the reduction is blocked, a variable is stuck by the parity that blocks it
 pub reduce-blocks :
-    (m : ℕ) (s : PathSum) (c : Counts) (q : Parity) → reduceFrom m s c .blockedBy ≡ some q → Stuck (reduceFrom m s c .sum) q
+    (m : ℕ) (s : PathSum) (c : Counts) (q : Parity) → reduceFrom m s c .blockedBy ≡ some q → Blocked (reduceFrom m s c .sum) q
 reduce-blocks m s c q b = run-blocks (run m s c) b
 
 -- a step counts at least one variable
@@ -306,10 +298,10 @@ unfolding remaining sumOver
 live-empty-phase s v e = rw e
 
 -- a parity that blocks holds only inputs
-pub stuck-inputs : (n : ℕ) (s : PathSum) (q : Parity) → Good n s → Stuck s q → (v : ℕ) → bit v (q .vars) ≡ true → v < n
+pub stuck-inputs : (n : ℕ) (s : PathSum) (q : Parity) → Good n s → Blocked s q → (v : ℕ) → bit v (q .vars) ≡ true → v < n
 stuck-inputs n s q g h v e =
     let held : bit v (lOf (h .y) s) ≡ true = rw (h .same) at e in
-    ⊎-elim (λ low. low) (λ a. absurd (true≢false (sym held ∙ firstIn-none (takeOut (h .y) s .live) (lOf (h .y) s) (h .free) v a)))
+    ⊎-elim (λ low. low) (λ a. absurd (true≢false (sym held ∙ h .free v a)))
     (holds-oddHalves (h .y) g v held)
 
 -- a constraint is not constantly 0: with C = 0 and L empty it would be a sum
@@ -328,11 +320,11 @@ constrained-nonzero c l below kind = go (eqb l 0) (eqb (c / 2 % 2) 1) refl refl
     go false b e f = refl
 
 -- so a parity that blocks is not
-pub stuck-nonzero : (s : PathSum) (q : Parity) → Stuck s q → isZero q ≡ false
+pub stuck-nonzero : (s : PathSum) (q : Parity) → Blocked s q → isZero q ≡ false
 stuck-nonzero s q h = rw (h .same) (constrained-nonzero (cOf (h .y) s) (lOf (h .y) s) (omega arith) (h .kind))
 
 -- where a parity that blocks is 1, the two values of the variable that is stuck cancel at every assignment with the same inputs
-pub stuck-zero : (n : ℕ) (s : PathSum) (q : Parity) (v : ℕ) → Good n s → Stuck s q → value q v ≡ true → remaining s v ≡ 0ω
+pub stuck-zero : (n : ℕ) (s : PathSum) (q : Parity) (v : ℕ) → Good n s → Blocked s q → value q v ≡ true → remaining s v ≡ 0ω
 unfolding remaining
 stuck-zero n s q v g h one =
     rw (sumOver-without (h .y) (s .live) (phasor (s .phase)) (g .rising) (h .ready .0), constraint-law (h .y) s (h .ready .1) (h .kind))

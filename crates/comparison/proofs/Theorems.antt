@@ -23,12 +23,13 @@ use Rattle.phase_sum.proofs.Evenness.{OddIn, Inputs, ready-even, noOdd-even, no
 use Rattle.phase_sum.proofs.Roominess.{room-build}
 use Rattle.comparison.specs.Reduction.{End, factor}
 use Rattle.comparison.specs.Verdict.{equal, different, undecided, Result, blockedInput, endOf, compare, joined, pinnedOf}
-use Rattle.comparison.specs.Demands.{SomePower, EqualIsRight, DifferentIsRight, UndecidedIsStuck, ReachedBySteps, InputsOnlyIfDifferent, CountsAddUp, FewSteps, Decided, CliffordIsDecided, EvenIsDecided, EveryStep, EndOfSteps, BuiltFits, EveryStepFits, Demands}
+use Rattle.comparison.specs.Demands.{SomePower, EqualIsRight, DifferentIsRight, UndecidedIsStuck, ReachedBySteps, InputsOnlyIfDifferent, CountsAddUp, FewSteps, Decided, CliffordIsDecided, EvenIsDecided, EveryStep, EndOfSteps, BuiltFits, EveryStepFits, Demands, BlockedAsShown, EverySumIsCanonical}
 use Rattle.comparison.proofs.Weight.{search-some}
 use Rattle.comparison.proofs.Pinning.{blocked-input, pin-blocked}
 use Rattle.comparison.proofs.Reducing.{reduce-steps, reduce-blocks, stuck-inputs, stuck-nonzero, stuck-zero}
 use Rattle.comparison.proofs.Reached.{room-joined, noT-joined, within-joined, pin-end, kept, steps-count, steps-fit, steps-diagonal, fits-sized, same-carries, phases-apart}
-use Rattle.comparison.proofs.Outcomes.{Reduced, further, halted, reduces, reduced-steps, reduced-through, reduced-stops, reduced-even, Judged, blocked, unready, unsized, found, same, Shown, shows, judges, reason, judged-undecided, judged-decided, judged-inputs}
+use Rattle.comparison.proofs.Outcomes.{Reduced, further, halted, reduces, reduced-steps, reduced-through, reduced-stops, reduced-even, Judged, blocked, unready, unsized, found, same, Shown, shows, judges, reason, judged-undecided, judged-decided, judged-inputs, reduced-blocked}
+use Rattle.phase_sum.proofs.Wellformed.{good-build}
 
 -- no input has a scratch qubit at 1 where there are none
 clear-none : (v : ℕ) → Clear 0 v
@@ -50,6 +51,17 @@ module _ (n : ℕ) (first second : List Gate) (l : AllWithin n first) (r : AllWi
   -- so it is where the reduction ends, also where a step is blocked
   pub end-of-steps : EndOfSteps n first second
   end-of-steps through = every-step through _ _ reached-by-steps
+
+  -- where a step blocks the reduction, a ready variable's step cannot be taken
+  pub blocked-as-shown : BlockedAsShown n first second
+  blocked-as-shown through q h = reduced-blocked ends through h
+
+  -- the terms that are built, and those after every step, stand in canonical form
+  pub every-sum-is-canonical : EverySumIsCanonical n first second
+  every-sum-is-canonical = (
+    good-build 0 n (joined first second) (within-joined 0 n first second l r) .0 .canonical,
+    λ t d steps. kept 0 n first second l r t d steps .good .canonical,
+  )
 
   -- the terms that are built keep to the room of both lists
   pub built-fits : BuiltFits n first second
@@ -176,6 +188,7 @@ demands n first second l r =
       different-is-right = different-is-right n first second l r;
       undecided-is-stuck = undecided-is-stuck n first second l r;
       reached-by-steps = reached-by-steps n first second l r;
+      blocked-as-shown = blocked-as-shown n first second l r;
       inputs-only-if-different = inputs-only-if-different n first second l r;
       counts-add-up = counts-add-up n first second l r;
       few-steps = few-steps n first second l r;
@@ -183,6 +196,7 @@ demands n first second l r =
       even-is-decided = even-is-decided n first second l r;
       every-step = every-step n first second l r;
       end-of-steps = end-of-steps n first second l r;
+      every-sum-is-canonical = every-sum-is-canonical n first second l r;
       built-fits = built-fits n first second l r;
       every-step-fits = every-step-fits n first second l r;
     }

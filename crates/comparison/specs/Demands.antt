@@ -6,18 +6,19 @@ use mathlib.Core.Logic.{_↔_, _⊎_}
 use Prim.Native.Nat.{ℕ, _+_, _*_, _^_, _≤_, _<_}
 use mathlib.Core.Bool.{true}
 use mathlib.Core.List.{List, []}
-use mathlib.Core.Option.{none}
+use mathlib.Core.Option.{none, some}
 use lib.ListN.{length}
 use Rattle.gate_list.specs.Gate.{Gate}
 use Rattle.amplitude.specs.Number.{√2^}
 use Rattle.amplitude.specs.Circuit.{Fits, Carries, column, hGates, tGates}
 use Rattle.phase_sum.specs.Sets.{Among}
-use Rattle.phase_sum.specs.Phase.{minus, inOdd}
+use Rattle.phase_sum.specs.Parity.{Parity}
+use Rattle.phase_sum.specs.Phase.{Canonical, minus, inOdd}
 use Rattle.phase_sum.specs.Building.{PathSum, build}
 use Rattle.phase_sum.specs.Meaning.{remaining}
 use Rattle.phase_sum.specs.Room.{room}
 use Rattle.comparison.specs.Reduction.{Counts, End, factor}
-use Rattle.comparison.specs.Steps.{Steps}
+use Rattle.comparison.specs.Steps.{Steps, Blocked}
 use Rattle.comparison.specs.Verdict.{Result, equal, different, undecided, joined, pinnedOf, endOf, compare}
 
 -- the sum t with the counts d is reached by document 01's steps from the pinned sum of a pair
@@ -63,6 +64,10 @@ module _ (n : ℕ) (first second : List Gate) where
   abbrev pub ReachedBySteps : Type 0
   ReachedBySteps = Reached 0 n first second (end .sum) (end .counts)
 
+  -- and where a step blocks it, there is a ready variable whose step cannot be taken
+  abbrev pub BlockedAsShown : Type 0
+  BlockedAsShown = pinning .blockedBy ≡ none → (q : Parity) → end .blockedBy ≡ some q → Blocked (end .sum) q
+
   -- document 01: the inputs are 0 and 0 unless different
   abbrev pub InputsOnlyIfDifferent : Type 0
   InputsOnlyIfDifferent = (answer .verdict ≡ different → ⊥) → (answer .first ≡ 0) × (answer .second ≡ 0)
@@ -104,6 +109,13 @@ module _ (n : ℕ) (first second : List Gate) where
   abbrev pub EndOfSteps : Type 0
   EndOfSteps = pinning .blockedBy ≡ none → DiagonalIs (end .sum) (end .counts)
 
+  -- equal sets are merged, empty sets and zero coefficients dropped: the terms of the built sum, and of every sum that steps reach from
+  -- the pinned one, stand in canonical form
+  abbrev pub EverySumIsCanonical : Type 0
+  EverySumIsCanonical =
+      Canonical (build 0 n (joined first second) .phase .terms)
+      × ((t : PathSum) (d : Counts) → Reached 0 n first second t d → Canonical (t .phase .terms))
+
   -- the terms of a sum keep to the room of both lists
   abbrev pub Fitting : PathSum → Type 0
   Fitting t = length (t .phase .terms) ≤ room first second
@@ -121,6 +133,7 @@ pub record Demands (n : ℕ) (first second : List Gate) : Type 0 where
   pub different-is-right : DifferentIsRight n first second
   pub undecided-is-stuck : UndecidedIsStuck n first second
   pub reached-by-steps : ReachedBySteps n first second
+  pub blocked-as-shown : BlockedAsShown n first second
   pub inputs-only-if-different : InputsOnlyIfDifferent n first second
   pub counts-add-up : CountsAddUp n first second
   pub few-steps : FewSteps n first second
@@ -128,5 +141,6 @@ pub record Demands (n : ℕ) (first second : List Gate) : Type 0 where
   pub even-is-decided : EvenIsDecided n first second
   pub every-step : EveryStep n first second
   pub end-of-steps : EndOfSteps n first second
+  pub every-sum-is-canonical : EverySumIsCanonical n first second
   pub built-fits : BuiltFits n first second
   pub every-step-fits : EveryStepFits n first second

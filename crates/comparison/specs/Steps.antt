@@ -6,7 +6,7 @@ use Prim.Native.Nat.{ℕ}
 use mathlib.Core.Bool.{true, false}
 use Rattle.amplitude.specs.Bits.{bit}
 use Rattle.phase_sum.specs.Sets.{Among}
-use Rattle.phase_sum.specs.Parity.{rest}
+use Rattle.phase_sum.specs.Parity.{Parity, rest}
 use Rattle.phase_sum.specs.Phase.{inOdd}
 use Rattle.phase_sum.specs.Building.{PathSum}
 use Rattle.phase_sum.specs.Stepping.{replace, halfSum, oddHalves, takeOut, turned, kindOf, constrained}
@@ -29,6 +29,14 @@ pub data Step (s : PathSum) (c : Counts) : PathSum → Counts → Type 0 where
   sums : (y : ℕ) → Ready y s → kindOf (cOf y s) (lOf y s) ≡ stepping.sum → Step s c (takeOut y s) (addSum c)
   turns : (y : ℕ) → Ready y s → kindOf (cOf y s) (lOf y s) ≡ stepping.turn → Step s c (turned (cOf y s) (lOf y s) (takeOut y s)) (addTurn c)
   joins : (y z : ℕ) → Ready y s → kindOf (cOf y s) (lOf y s) ≡ stepping.constraint → Among z (takeOut y s .live) → bit z (lOf y s) ≡ true → Step s c (replace z (rest z (constrained (cOf y s) (lOf y s))) (takeOut y s)) (addJoin c)
+
+-- document 01's blocked: a ready y whose step asks that q is 0, where q holds no live path variable. y is not taken out
+pub record Blocked (s : PathSum) (q : Parity) : Type 0 where
+  pub y : ℕ
+  pub ready : Ready y s
+  pub kind : kindOf (cOf y s) (lOf y s) ≡ stepping.constraint
+  pub same : q ≡ constrained (cOf y s) (lOf y s)
+  pub free : (z : ℕ) → Among z (takeOut y s .live) → bit z (lOf y s) ≡ false
 
 -- some steps, one after another
 pub data Steps (s : PathSum) (c : Counts) : PathSum → Counts → Type 0 where

@@ -26,6 +26,17 @@ fn on(
 
 pub fn record_first(u: Tally) -> Tally {
     let mut t = u;
+    let mut b0 = [0u8; 0];
+    t = on(
+        t,
+        b"add: no bytes, 1",
+        &mut b0,
+        0,
+        0,
+        255,
+        Want::Number(1),
+        b"",
+    );
     let mut b1 = [0x51u8, 0x43, 0x01, 0x01];
     t = on(
         t,

@@ -61,14 +61,18 @@ pub fn refusals(u: Tally) -> Tally {
         Want::Number(3),
         b"\xa5\xa5\xa5\xa5\xa5\xa5\xa5\xa5\xa5\xa5\xa5\xa5",
     );
-    t = patterned(
+    patterned(
         t,
         b"inverse: g = 513, 4",
         b"\x51\x43\x01\x01\x02",
         12,
         Want::Number(4),
         b"\xa5\xa5\xa5\xa5\xa5\xa5\xa5\xa5\xa5\xa5\xa5\xa5",
-    );
+    )
+}
+
+pub fn later_refusals(u: Tally) -> Tally {
+    let mut t = u;
     t = patterned(
         t,
         b"inverse: short body, 1",
@@ -113,6 +117,14 @@ pub fn refusals(u: Tally) -> Tally {
 
 pub fn inverses(u: Tally) -> Tally {
     let mut t = u;
+    t = patterned(
+        t,
+        b"inverse: no bytes to write to, 11",
+        b"\x51\x43\x01\x00\x00",
+        0,
+        Want::Number(11),
+        b"\xa5\xa5\xa5\xa5\xa5\xa5\xa5\xa5\xa5\xa5\xa5\xa5",
+    );
     t = patterned(
         t,
         b"inverse: no gate, bytes behind stay",

@@ -13,19 +13,26 @@ use tally::Tally;
 fn main() {
     let mut t = Tally { rows: 0, failed: 0 };
     t = read_rows::head(t);
+    t = read_rows::qubit_limits(t);
+    t = read_rows::gate_limit(t);
     t = read_rows::body(t);
     t = read_rows::gate_numbers(t);
+    t = read_rows::one_qubit(t);
+    t = read_rows::two_qubits(t);
     t = read_rows::gate_order(t);
     t = read_rows::parts(t);
-    t = start_rows::all(t);
+    t = start_rows::qubits(t);
+    t = start_rows::buffers(t);
     t = add_rows::record_first(t);
     t = add_rows::record_gates(t);
     t = add_rows::new_gate(t);
     t = add_rows::kept_behind(t);
     t = add_rows::full(t);
     t = inverse_rows::refusals(t);
+    t = inverse_rows::later_refusals(t);
     t = inverse_rows::inverses(t);
     t = report_rows::writer(t);
     t = report_rows::reader(t);
+    t = report_rows::reader_fields(t);
     tally::total(t);
 }

@@ -21,12 +21,16 @@ pub fn head(u: Tally) -> Tally {
     );
     t = refused(t, b"check: first mark byte, 2", b"\x50\x43\x01\x00\x00", 2);
     t = refused(t, b"check: second mark byte, 2", b"\x51\x56\x01\x00\x00", 2);
-    t = refused(
+    refused(
         t,
         b"check: another mark and n = 0, 2",
         b"\x51\x44\x00\x00\x00",
         2,
-    );
+    )
+}
+
+pub fn qubit_limits(u: Tally) -> Tally {
+    let mut t = u;
     t = refused(t, b"check: n = 0, 3", b"\x51\x43\x00\x00\x00", 3);
     t = refused(t, b"check: n = 17, 3", b"\x51\x43\x11\x00\x00", 3);
     t = refused(
@@ -36,7 +40,11 @@ pub fn head(u: Tally) -> Tally {
         3,
     );
     t = accepted(t, b"check: n = 1", b"\x51\x43\x01\x00\x00", 1, 0);
-    t = accepted(t, b"check: n = 16", b"\x51\x43\x10\x00\x00", 16, 0);
+    accepted(t, b"check: n = 16", b"\x51\x43\x10\x00\x00", 16, 0)
+}
+
+pub fn gate_limit(u: Tally) -> Tally {
+    let mut t = u;
     t = refused(
         t,
         b"check: g = 513 in five bytes, 4",
@@ -96,12 +104,16 @@ pub fn gate_numbers(u: Tally) -> Tally {
         b"\x51\x43\x02\x01\x00\xff\x00\xff",
         5,
     );
-    t = refused(
+    refused(
         t,
         b"check: kind 11 with bad a and b, 5",
         b"\x51\x43\x02\x01\x00\x0b\x09\x09",
         5,
-    );
+    )
+}
+
+pub fn one_qubit(u: Tally) -> Tally {
+    let mut t = u;
     t = refused(
         t,
         b"check: kind 0 and b = 0, 7",
@@ -126,13 +138,17 @@ pub fn gate_numbers(u: Tally) -> Tally {
         b"\x51\x43\x02\x01\x00\x07\x02\xff",
         6,
     );
-    t = accepted(
+    accepted(
         t,
         b"check: one qubit, a = n - 1",
         b"\x51\x43\x02\x01\x00\x07\x01\xff",
         2,
         1,
-    );
+    )
+}
+
+pub fn two_qubits(u: Tally) -> Tally {
+    let mut t = u;
     t = refused(
         t,
         b"check: two qubits, a = n, 6",

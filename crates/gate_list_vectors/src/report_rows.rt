@@ -130,12 +130,16 @@ pub fn reader(u: Tally) -> Tally {
         b"\x51\x43\x00\x00\x00\x00\x00\x00\x00\x00\x00\x00",
         2,
     );
-    t = report_refused(
+    report_refused(
         t,
         b"report: another mark and verdict 3, 2",
         b"\x51\x57\x03\x00\x00\x00\x00\x00\x00\x00\x00\x00",
         2,
-    );
+    )
+}
+
+pub fn reader_fields(u: Tally) -> Tally {
+    let mut t = u;
     t = report_refused(
         t,
         b"report: read verdict 3, 5",

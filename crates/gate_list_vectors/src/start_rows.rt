@@ -28,7 +28,7 @@ fn patterned(t: Tally, name: &[u8], size: usize, n: usize, want: Want, expected:
     on(t, name, &mut b, size, n, want, expected)
 }
 
-pub fn all(u: Tally) -> Tally {
+pub fn qubits(u: Tally) -> Tally {
     let mut t = u;
     t = patterned(
         t,
@@ -54,14 +54,18 @@ pub fn all(u: Tally) -> Tally {
         Want::Number(3),
         b"\xa5\xa5\xa5\xa5\xa5\xa5\xa5\xa5",
     );
-    t = patterned(
+    patterned(
         t,
         b"start: n = 17 and four bytes, 3",
         4,
         17,
         Want::Number(3),
         b"\xa5\xa5\xa5\xa5\xa5\xa5\xa5\xa5",
-    );
+    )
+}
+
+pub fn buffers(u: Tally) -> Tally {
+    let mut t = u;
     t = patterned(
         t,
         b"start: four bytes, 11",

@@ -9,17 +9,8 @@ use native.Mathlib.Omega.{arith}
 use lib.Dec.{eqb, ltb}
 use borrow.Author.Tests.{eqb-true, eqb-false, eq-eqb, ne-eqb, ltb-true, ltb-false}
 use Rattle.phase_sum.specs.Parity.{Parity}
-use Rattle.phase_sum.specs.Phase.{Term, term, Phase, minus, keep, merge, addTerm, addConstant, addPhase, rebuild}
+use Rattle.phase_sum.specs.Phase.{Term, term, Phase, minus, keep, merge, addTerm, addConstant, addPhase, rebuild, CanonicalAbove, Canonical}
 use Rattle.phase_sum.proofs.PhaseLaws.{keep-cases, merge-cases}
-
--- sets strictly rising, the first above b, and coefficients from 1 to 7
-abbrev pub CanonicalAbove : ℕ → List Term → Type 0
-CanonicalAbove b [] = Unit {0}
-CanonicalAbove b (t ∷ ts) = (b < t .set) × (0 < t .coeff) × (t .coeff < 8) × CanonicalAbove (t .set) ts
-
--- the canonical form: sets strictly rising, none empty, and coefficients from 1 to 7
-abbrev pub Canonical : List Term → Type 0
-Canonical ts = CanonicalAbove 0 ts
 
 -- terms above a bound are above a lower one
 pub above-lower : (b d : ℕ) (ts : List Term) → b ≤ d → CanonicalAbove d ts → CanonicalAbove b ts

@@ -18,7 +18,7 @@ use Rattle.amplitude.specs.Circuit.{tally, isH, hGates}
 use Rattle.amplitude.proofs.BitLaws.{bit-zero, bit-power-other}
 use Rattle.phase_sum.specs.Sets.{_△_, single, without, from, Among, here, there, firstIn}
 use Rattle.phase_sum.specs.Parity.{Parity, of, _⊕_, complement, rest, replaceIn}
-use Rattle.phase_sum.specs.Phase.{Term, Phase, addConstant, addPhase, rebuild}
+use Rattle.phase_sum.specs.Phase.{Term, Phase, addConstant, addPhase, rebuild, Canonical}
 use Rattle.phase_sum.specs.Building.{PathSum, input, initial, wire, setWire, withPhase, turnBy, product, hadamard, gate, gatesFrom, build}
 use Rattle.phase_sum.specs.Stepping.{replace, outOf, oddHalves, takeOut, turned}
 use Rattle.phase_sum.proofs.SetLaws.{bit-△}
@@ -27,6 +27,7 @@ use Rattle.phase_sum.proofs.ParityLaws.{bit-out-same, rest-free, replac
 use Rattle.phase_sum.proofs.PhaseLaws.{Every, every-map, every-addPhase, every-rebuild, constant-below-addConstant, constant-below-addPhase, constant-below-rebuild}
 use Rattle.phase_sum.proofs.Replacing.{wire-replace}
 use mathlib.Core.Option.{none}
+use Rattle.phase_sum.proofs.CanonicalLaws.{canonical-addPhase, canonical-rebuild}
 
 -- a set holds only inputs and live variables
 abbrev pub Holds : ℕ → List ℕ → ℕ → Type 0
@@ -38,6 +39,7 @@ pub record Good (n : ℕ) (s : PathSum) : Type 0 where
   pub above : (v : ℕ) → Among v (s .live) → n ≤ v
   pub terms : Every (λ t. Holds n (s .live) (t .set)) (s .phase .terms)
   pub below : s .phase .constant < 8
+  pub canonical : Canonical (s .phase .terms)
 
 -- each wire holds only inputs and live variables
 abbrev pub GoodWires : ℕ → PathSum → Type 0
@@ -70,14 +72,14 @@ holds-single n live u h v e = go (eqb v u) refl
 pub holds-more : (n : ℕ) (live more : List ℕ) (s : ℕ) → ((v : ℕ) → Among v live → Among v more) → Holds n live s → Holds n more s
 holds-more n live more s grow h v e = ⊎-elim (λ low. inl low) (λ a. inr (grow v a)) (h v e)
 
--- a phase whose terms hold only inputs and live variables, with its constant below 8
+-- a phase whose terms hold only inputs and live variables and stand in canonical form, with its constant below 8
 abbrev Sound : ℕ → List ℕ → Phase → Type 0
-Sound n live φ = Every (λ t. Holds n live (t .set)) (φ .terms) × (φ .constant < 8)
+Sound n live φ = Every (λ t. Holds n live (t .set)) (φ .terms) × (φ .constant < 8) × Canonical (φ .terms)
 
 -- adding to the constant keeps a phase sound
 sound-addConstant : (n : ℕ) (live : List ℕ) (k : ℕ) (φ : Phase) → Sound n live φ → Sound n live (addConstant k φ)
 unfolding addConstant
-sound-addConstant n live k φ h = (h .0, constant-below-addConstant k φ)
+sound-addConstant n live k φ h = (h .0, constant-below-addConstant k φ, h .2)
 
 -- a phase on a parity of inputs and live variables keeps a phase sound
 sound-addPhase :
@@ -86,7 +88,7 @@ sound-addPhase :
     Sound n live φ →
     Sound n live (addPhase c p φ)
 sound-addPhase n live c p φ hp h =
-    (every-addPhase (λ t. Holds n live (t .set)) c p φ (λ k. hp) (h .0), constant-below-addPhase c p φ (h .1))
+    (every-addPhase (λ t. Holds n live (t .set)) c p φ (λ k. hp) (h .0), constant-below-addPhase c p φ (h .1), canonical-addPhase c p φ (h .2))
 
 -- so does 4 on a product of two of them
 sound-product :
@@ -107,7 +109,7 @@ sound-rebuild :
     Every (λ t. Holds n live (t .set)) ts →
     Sound n after (rebuild f k ts)
 sound-rebuild n live after f k ts send h =
-    (every-rebuild (Holds n after) f k ts (every-map _ _ ts (λ t. send (t .set)) h), constant-below-rebuild f k ts)
+    (every-rebuild (Holds n after) f k ts (every-map _ _ ts (λ t. send (t .set)) h), constant-below-rebuild f k ts, canonical-rebuild f k ts)
 
 -- what holds of a parity and of those in a list holds of the list with the parity set in it
 set-keeps : (P : Parity → Type 0) (l : List Parity) (i j : ℕ) (a d : Parity) → P a → P (getD l j d) → P (getD (set l i a) j d)
@@ -169,7 +171,7 @@ held-hadamard n v q s h = (
     new = holds-single n live v (inr (among-last (s .live) v))
 
     sound : Sound n live (s .phase)
-    sound = (every-map _ _ (s .phase .terms) (λ t. old (t .set)) (h .0 .0), h .0 .1)
+    sound = (every-map _ _ (s .phase .terms) (λ t. old (t .set)) (h .0 .0), h .0 .1, h .0 .2)
 
 -- so does every gate
 held-gate : (y n : ℕ) (g : Gate) (s : PathSum) → Held n s → Held n (gate y n g s)
@@ -211,7 +213,7 @@ holds-input scratch n live q l = go (bit q scratch)
 held-initial : (scratch n : ℕ) → Held n (initial scratch n)
 unfolding initial
 held-initial scratch n = (
-  (tt, omega arith),
+  (tt, omega arith, tt),
   λ q. map-keeps (λ w. Holds n [] (w .vars)) (input scratch) (from 0 n) q (of 0) inputs (holds-none n []),
 )
   where
@@ -256,6 +258,7 @@ good-build scratch n gs within = (
     above = λ v a. from-among n (hGates gs) (rw (live-build-from scratch n gs) at a) .0;
     terms = held .0 .0;
     below = held .0 .1;
+    canonical = held .0 .2;
   },
   held .1,
 )
@@ -325,6 +328,7 @@ good-without n z s t g e sound =
       above = λ v a. g .above v (without-among z (s .live) (rw e at a) .0);
       terms = sound .0;
       below = sound .1;
+      canonical = sound .2;
     }
 
 -- replacing a live variable keeps a sum good
@@ -390,12 +394,12 @@ live-takeOut n y s g a = length-without (g .rising) a
 pub good-turned : (k l : ℕ) {n : ℕ} {s : PathSum} → Good n s → Holds n (s .live) l → Good n (turned k l s)
 unfolding turned addPhase
 good-turned k l {n} {s} g h =
-    record { rising = g .rising; above = g .above; terms = new .0; below = new .1 }
+    record { rising = g .rising; above = g .above; terms = new .0; below = new .1; canonical = new .2 }
   where
     new : Sound n (s .live) (turned k l s .phase)
     new =
         sound-addPhase n (s .live) (cond (eqb k 1) 6 2) (of l) _ h
-        (sound-addConstant n (s .live) (cond (eqb k 1) 1 7) (s .phase) (g .terms, g .below))
+        (sound-addConstant n (s .live) (cond (eqb k 1) 1 7) (s .phase) (g .terms, g .below, g .canonical))
 
 -- the exclusive or over the terms of odd half coefficient holds only what they hold, without y
 holds-halves :

@@ -6,7 +6,6 @@ use Rattle.amplitude.specs.Bits.{bit}
 use Rattle.phase_sum.specs.Sets.{_△_, single, parity}
 
 infixl 60 _⊕_
-
 -- the parity of the set's variables, complemented where the constant is 1
 pub record Parity : Type 0 where
   pub vars : ℕ

@@ -1,7 +1,7 @@
 -- The phase polynomial: a constant mod 8 and terms, each a set with a coefficient mod 8, which adds the coefficient times the
 -- parity of the set. Terms stand in one canonical form: sets strictly rising, none empty, no coefficient 0.
 -- Assumes nothing.
-use Prim.Native.Nat.{ℕ, _+_, _-_, _*_, _%_}
+use Prim.Native.Nat.{ℕ, _+_, _-_, _*_, _%_, _<_}
 use mathlib.Core.Bool.{Bool, false, cond, _||_}
 use mathlib.Core.List.{List, [], _∷_}
 use lib.Dec.{eqb, ltb}
@@ -28,6 +28,15 @@ sumAt (t ∷ ts) x = t .coeff * digit (parity (t .set) x) + sumAt ts x
 -- the phase at an assignment, as a number to be read mod 8
 unfoldable pub phaseAt : Phase → ℕ → ℕ
 phaseAt φ x = φ .constant + sumAt (φ .terms) x
+
+-- sets strictly rising, the first above b, and coefficients from 1 to 7
+abbrev pub CanonicalAbove : ℕ → List Term → Type 0
+CanonicalAbove b [] = Unit {0}
+CanonicalAbove b (t ∷ ts) = (b < t .set) × (0 < t .coeff) × (t .coeff < 8) × CanonicalAbove (t .set) ts
+
+-- the canonical form: sets strictly rising, none empty, and coefficients from 1 to 7
+abbrev pub Canonical : List Term → Type 0
+Canonical ts = CanonicalAbove 0 ts
 
 -- minus a coefficient, mod 8
 abbrev pub minus : ℕ → ℕ
