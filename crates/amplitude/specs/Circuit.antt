@@ -11,6 +11,7 @@ use Rattle.amplitude.specs.Number.{Zω, 0ω, 1ω, _+ω_, ω^, √2^}
 use Rattle.amplitude.specs.Bits.{digit, bit, put}
 use Rattle.amplitude.specs.Matrix.{matrix, entry, times}
 
+-- an amplitude for each output's number
 abbrev pub State : Type 0
 State = ℕ → Zω
 
@@ -51,10 +52,11 @@ abbrev pub isT : Gate → ℕ
 isT (one u q) = digit (eqb (oneQubitKind u) 5 || eqb (oneQubitKind u) 6)
 isT (two v a b) = 0
 
--- the H gates of a list, and its T gates
+-- the H gates of a list
 abbrev pub hGates : List Gate → ℕ
 hGates gs = tally isH gs
 
+-- and its T gates
 abbrev pub tGates : List Gate → ℕ
 tGates gs = tally isT gs
 

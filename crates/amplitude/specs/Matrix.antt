@@ -5,6 +5,7 @@ use mathlib.Core.Bool.{Bool, true, false}
 use Rattle.gate_list.specs.Gate.{OneQubit, X, Y, Z, S, S†, T, T†, H}
 use Rattle.amplitude.specs.Number.{Zω, 0ω, ω^}
 
+-- an entry: O is 0, ω k is the k-th power of ω
 pub data Entry : Type 0 where
   O : Entry
   ω : ℕ → Entry
@@ -16,9 +17,11 @@ pub record Matrix : Type 0 where
   pub entry₁₀ : Entry
   pub entry₁₁ : Entry
 
+-- a matrix by its rows, the first in front
 abbrev pub rows : Entry → Entry → Entry → Entry → Matrix
 rows p q r s = record { entry₀₀ = p; entry₀₁ = q; entry₁₀ = r; entry₁₁ = s }
 
+-- the matrix of each one-qubit gate
 unfoldable pub matrix : OneQubit → Matrix
 matrix X = rows O (ω 0) (ω 0) O
 matrix Y = rows O (ω 6) (ω 2) O

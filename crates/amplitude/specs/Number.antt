@@ -4,6 +4,7 @@ use Prim.Native.Nat.{ℕ, zero, suc}
 use lib.IntN.{ℤ, pos, negℤ, _+ℤ_}
 
 infixl 60 _+ω_
+-- a + bω + cω² + dω³
 pub record Zω : Type 0 where
   pub a : ℤ
   pub b : ℤ
@@ -14,9 +15,11 @@ pub record Zω : Type 0 where
 unfoldable pub whole : ℤ → Zω
 whole k = record { a = k; b = pos 0; c = pos 0; d = pos 0 }
 
+-- 0
 unfoldable pub 0ω : Zω
 0ω = whole (pos 0)
 
+-- 1
 unfoldable pub 1ω : Zω
 1ω = whole (pos 1)
 

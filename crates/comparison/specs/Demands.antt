@@ -26,13 +26,15 @@ abbrev pub Reached : ℕ → ℕ → List Gate → List Gate → PathSum → Cou
 Reached scratch n first second t d = Steps (pinnedOf scratch n first second .sum) (pinnedOf scratch n first second .counts) t d
 
 module _ (n : ℕ) (first second : List Gate) where
-  -- the result of the comparison, with no scratch qubits; where pinning ends; where the reduction ends
+  -- the result of the comparison, with no scratch qubits
   abbrev pub answer : Result
   answer = compare 0 n first second
 
+  -- where pinning ends
   abbrev pub pinning : End
   pinning = pinnedOf 0 n first second
 
+  -- where the reduction ends
   abbrev pub end : End
   end = endOf 0 n first second
 
@@ -102,10 +104,11 @@ module _ (n : ℕ) (first second : List Gate) where
   abbrev pub DiagonalIs : PathSum → Counts → Type 0
   DiagonalIs t d = (v : ℕ) → v < 2 ^ n → column (joined first second) v v ≡ √2^ (factor d) (remaining t v)
 
-  -- the invariant: so it is after every step, in whatever order the steps come, and so where the reduction ends
+  -- the invariant: so it is after every step, in whatever order the steps come
   abbrev pub EveryStep : Type 0
   EveryStep = pinning .blockedBy ≡ none → (t : PathSum) (d : Counts) → Reached 0 n first second t d → DiagonalIs t d
 
+  -- and so where the reduction ends
   abbrev pub EndOfSteps : Type 0
   EndOfSteps = pinning .blockedBy ≡ none → DiagonalIs (end .sum) (end .counts)
 
@@ -120,10 +123,11 @@ module _ (n : ℕ) (first second : List Gate) where
   abbrev pub Fitting : PathSum → Type 0
   Fitting t = length (t .phase .terms) ≤ room first second
 
-  -- so do those of the built sum, and of every sum that steps reach from the pinned one
+  -- so do those of the built sum
   abbrev pub BuiltFits : Type 0
   BuiltFits = Fitting (build 0 n (joined first second))
 
+  -- and those of every sum that steps reach from the pinned one
   abbrev pub EveryStepFits : Type 0
   EveryStepFits = (t : PathSum) (d : Counts) → Reached 0 n first second t d → Fitting t
 

@@ -18,18 +18,23 @@ pub record Counts : Type 0 where
   pub turns : ℕ
   pub joins : ℕ
 
+-- counts by their numbers
 abbrev pub counts : ℕ → ℕ → ℕ → ℕ → Counts
 counts p s t j = record { pins = p; sums = s; turns = t; joins = j }
 
+-- one pin more
 unfoldable pub addPin : Counts → Counts
 addPin c = counts (suc (c .pins)) (c .sums) (c .turns) (c .joins)
 
+-- one sum more
 unfoldable pub addSum : Counts → Counts
 addSum c = counts (c .pins) (suc (c .sums)) (c .turns) (c .joins)
 
+-- one turn more
 unfoldable pub addTurn : Counts → Counts
 addTurn c = counts (c .pins) (c .sums) (suc (c .turns)) (c .joins)
 
+-- one join more
 unfoldable pub addJoin : Counts → Counts
 addJoin c = counts (c .pins) (c .sums) (c .turns) (suc (c .joins))
 
@@ -43,9 +48,11 @@ pub record End : Type 0 where
   pub sum : PathSum
   pub counts : Counts
 
+-- it stops here, not blocked
 abbrev pub stops : PathSum → Counts → End
 stops s c = record { blockedBy = none; sum = s; counts = c }
 
+-- it is blocked here by q
 abbrev pub blocks : Parity → PathSum → Counts → End
 blocks q s c = record { blockedBy = some q; sum = s; counts = c }
 
@@ -87,6 +94,7 @@ stepWith y k l s c =
       ]
     ]
 
+-- the step at a ready y
 abbrev pub stepAt : ℕ → PathSum → Counts → Next
 stepAt y s c = stepWith y (halfSum y (s .phase .terms)) (oddHalves y (s .phase .terms)) s c
 

@@ -17,10 +17,11 @@ use Rattle.phase_sum.specs.Stepping as stepping
 abbrev pub Ready : ℕ → PathSum → Type 0
 Ready y s = Among y (s .live) × (inOdd y (s .phase .terms) ≡ false)
 
--- C and L of y
+-- C of y
 abbrev pub cOf : ℕ → PathSum → ℕ
 cOf y s = halfSum y (s .phase .terms)
 
+-- L of y
 abbrev pub lOf : ℕ → PathSum → ℕ
 lOf y s = oddHalves y (s .phase .terms)
 

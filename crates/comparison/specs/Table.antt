@@ -14,6 +14,7 @@ pub record Row : Type 0 where
   pub second : List Gate
   pub expected : Result
 
+-- a row by its parts
 abbrev pub row : ℕ → List Gate → List Gate → Result → Row
 row n first second expected = record { n = n; first = first; second = second; expected = expected }
 

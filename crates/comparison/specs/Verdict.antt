@@ -30,9 +30,11 @@ unfoldable pub firstDiffering : Phase → List ℕ → Option ℕ
 firstDiffering φ [] = none
 firstDiffering φ (v ∷ vs) = cond (eqb (phaseAt φ v % 8) (phaseAt φ 0 % 8)) (firstDiffering φ vs) (some v)
 
+-- the three verdicts
 pub data Verdict : Type 0 where
   equal different undecided : Verdict
 
+-- what the comparison returns: the verdict, its two inputs and the five counts
 pub record Result : Type 0 where
   pub verdict : Verdict
   pub first : ℕ
@@ -47,6 +49,7 @@ pub record Result : Type 0 where
 abbrev pub left : End → ℕ
 left e = length (e .sum .live)
 
+-- a result by its verdict and inputs, with the counts of the end
 abbrev pub result : Verdict → ℕ → ℕ → End → Result
 result v a b e =
     record {

@@ -10,9 +10,11 @@ use Rattle.gate_list.specs.Gate.{one, two, S, S†, T†, T, H, CX, gate
 use Rattle.gate_list.specs.Row.{Fault, first}
 use Rattle.gate_list.specs.Reading.{raws, allGateRows, recordRows, accepted, refused, read}
 
+-- a fault of the whole record
 abbrev pub fault : ℕ → Fault
 fault k = record { number = k; gate = none }
 
+-- a fault of the gate at index i
 abbrev pub faultAt : ℕ → ℕ → Fault
 faultAt i k = record { number = k; gate = some i }
 

@@ -74,6 +74,7 @@ pub record HeadPassed (s : List ℕ) (n g : ℕ) : Type 0 where
   pub g-is : g ≡ count s
   pub whole : size (count s) ≤ length s
 
+-- a head that answers n and g is accepted, and they are its own
 pub head-gives : (s : List ℕ) (n g : ℕ) → gives (n ∷ g ∷ []) ≡ headAnswer s → HeadPassed s n g
 head-gives s n g = go (first (headRows s)) refl
   where

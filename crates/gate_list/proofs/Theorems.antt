@@ -219,6 +219,7 @@ report-reads-back r buffer values first-fits second-fits h =
     let known = ltb-false lastVerdict (r .verdict) (none-holds (bad ∷ []) .0 good .0) in
     rw now (report-back r (drop reportSize buffer) known first-fits second-fits)
 
+-- a refused writer changes no byte
 pub refused-writer-changes-nothing : RefusedWriterChangesNothing
 unfolding write
 refused-writer-changes-nothing rows new buffer k = go (first (writerRows rows new buffer)) refl
@@ -228,6 +229,7 @@ refused-writer-changes-nothing rows new buffer k = go (first (writerRows rows ne
     go none e h = absurd (one-answer h)
     go (some f) e h = ((f, first-holds (writerRows rows new buffer) f .0 e, cc), refl)
 
+-- another leaves the bytes behind its record
 pub writer-keeps-the-rest : WriterKeepsTheRest
 unfolding write
 writer-keeps-the-rest rows new buffer values = go (first (writerRows rows new buffer)) refl

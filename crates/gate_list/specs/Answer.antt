@@ -32,10 +32,12 @@ numberOf QubitRange = 6
 numberOf SpareByte = 7
 numberOf BufferShort = 11
 
+-- what check answered
 abbrev pub checkedAnswer : Checked → Answer
 checkedAnswer (Accepted n g) = gives (n ∷ g ∷ [])
 checkedAnswer (Checked.Refused r) = refuses (numberOf r)
 
+-- what a writer answered
 abbrev pub writtenAnswer : Written → Answer
 writtenAnswer (Length size) = gives (size ∷ [])
 writtenAnswer (Written.Refused r) = refuses (numberOf r)
@@ -45,6 +47,7 @@ abbrev pub fields : Report → List ℕ
 fields r =
     r .verdict ∷ r .first ∷ r .second ∷ r .pins ∷ r .sums ∷ r .turns ∷ r .joins ∷ r .left ∷ []
 
+-- what the report reader answered
 abbrev pub reportAnswer : ReportRead → Answer
 reportAnswer (Fields r) = gives (fields r)
 reportAnswer (ReportRead.Refused r) = refuses (numberOf r)

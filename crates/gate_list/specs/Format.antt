@@ -23,9 +23,11 @@ gateSize = 3
 abbrev pub reportSize : ℕ
 reportSize = 12
 
+-- n is from 1 to this
 abbrev pub mostQubits : ℕ
 mostQubits = 16
 
+-- g is from 0 to this
 abbrev pub mostGates : ℕ
 mostGates = 512
 

@@ -45,6 +45,7 @@ pub record Raw : Type 0 where
   pub a : ℕ
   pub b : ℕ
 
+-- three bytes by their values
 abbrev pub raw : ℕ → ℕ → ℕ → Raw
 raw kind a b = record { kind = kind; a = a; b = b }
 
@@ -53,7 +54,7 @@ unfoldable pub gateOf : Raw → Gate
 gateOf r =
     cond (leb (r .kind) lastOneQubit) (one (getD oneQubitKinds (r .kind) H) (r .a)) (two (getD twoQubitKinds (r .kind - 8) SWAP) (r .a) (r .b))
 
--- the number of a kind
+-- the number of a one-qubit kind
 unfoldable pub oneQubitKind : OneQubit → ℕ
 oneQubitKind X = 0
 oneQubitKind Y = 1
@@ -64,6 +65,7 @@ oneQubitKind T = 5
 oneQubitKind T† = 6
 oneQubitKind H = 7
 
+-- the number of a two-qubit kind
 unfoldable pub twoQubitKind : TwoQubit → ℕ
 twoQubitKind CX = 8
 twoQubitKind CZ = 9
@@ -90,6 +92,7 @@ inverseKind T = T†
 inverseKind T† = T
 inverseKind H = H
 
+-- a gate's inverse, on the same qubits
 unfoldable pub inverseGate : Gate → Gate
 inverseGate (one u a) = one (inverseKind u) a
 inverseGate (two v a b) = two v a b

@@ -45,6 +45,7 @@ pub record Sound (s : List ℕ) (n : ℕ) (gs : List Gate) : Type 0 where
   pub whole : size (length gs) ≤ length s
   pub bytes : Bytes s → take (size (length gs)) s ≡ encode n gs
 
+-- every accepted record is so
 abbrev pub AcceptedIsSound : Type 0
 AcceptedIsSound = (s : List ℕ) (n : ℕ) (gs : List Gate) → read s ≡ accepted n gs → Sound s n gs
 

@@ -15,10 +15,11 @@ use Rattle.gate_list.specs.Row.{Fault, Row, row, gateRow, first}
 abbrev pub marked : List ℕ → List ℕ → Bool
 marked m s = eqb (getD s 0 0) (getD m 0 0) && eqb (getD s 1 0) (getD m 1 0)
 
--- n and g, as the head has them
+-- n, as the head has it
 abbrev pub qubits : List ℕ → ℕ
 qubits s = getD s 2 0
 
+-- g, as the head has it
 abbrev pub count : List ℕ → ℕ
 count s = fromBytes (getD s 3 0) (getD s 4 0)
 
@@ -82,5 +83,6 @@ abbrev pub unless : Option Fault → Reading → Reading
 unless none found = found
 unless (some f) found = refused f
 
+-- reading the record at the start of the bytes
 unfoldable pub read : List ℕ → Reading
 read s = unless (first (recordRows s)) (accepted (qubits s) (gates s))

@@ -49,5 +49,6 @@ abbrev pub reportRows : List ℕ → List Row
 reportRows s =
     row 1 (ltb (length s) reportSize) ∷ row 2 (not (marked reportMark s)) ∷ row 5 (ltb lastVerdict (getD s 2 0)) ∷ []
 
+-- what the report reader answers
 unfoldable pub readReport : List ℕ → Answer
 readReport s = faultOr (first (reportRows s)) (gives (fields (reportIn s)))

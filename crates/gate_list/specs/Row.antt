@@ -11,6 +11,7 @@ pub record Fault : Type 0 where
   pub number : ℕ
   pub gate : Option ℕ
 
+-- a fault, and whether its condition holds
 pub record Row : Type 0 where
   pub fault : Fault
   pub when : Bool

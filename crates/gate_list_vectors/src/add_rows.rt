@@ -24,7 +24,7 @@ fn on(
     written(t, name, answer, want, buffer, expected)
 }
 
-pub fn record_first(u: Tally) -> Tally {
+pub(crate) fn record_first(u: Tally) -> Tally {
     let mut t = u;
     let mut b0 = [0u8; 0];
     t = on(
@@ -83,7 +83,7 @@ pub fn record_first(u: Tally) -> Tally {
     )
 }
 
-pub fn record_gates(u: Tally) -> Tally {
+pub(crate) fn record_gates(u: Tally) -> Tally {
     let mut t = u;
     let mut b1 = [0x51u8, 0x43, 0x01, 0x02, 0x00, 0x00, 0x00, 0xff];
     t = on(
@@ -146,7 +146,7 @@ fn in_seven(t: Tally, name: &[u8], kind: u8, a: u8, b: u8, number: u8) -> Tally 
     )
 }
 
-pub fn new_gate(u: Tally) -> Tally {
+pub(crate) fn new_gate(u: Tally) -> Tally {
     let mut t = u;
     t = in_seven(t, b"add: kind 11 and a short buffer, 5", 11, 9, 9, 5);
     t = in_seven(t, b"add: bad b and bad a, 7", 7, 9, 0, 7);
@@ -192,7 +192,7 @@ fn three_gates(u: Tally, buffer: &mut [u8]) -> Tally {
     accepted(t, b"add: the record reads back", buffer, 2, 2)
 }
 
-pub fn kept_behind(t: Tally) -> Tally {
+pub(crate) fn kept_behind(t: Tally) -> Tally {
     let mut b = [
         0x51u8,
         0x43,
@@ -278,7 +278,7 @@ fn full_on(u: Tally, b: &mut [u8]) -> Tally {
 }
 
 // The record of 512 gates, in a buffer that has room for 513.
-pub fn full(t: Tally) -> Tally {
+pub(crate) fn full(t: Tally) -> Tally {
     let mut b = [0xa5u8; 1544];
     full_on(t, &mut b)
 }

@@ -12,7 +12,7 @@ fn is_number(r: gate_list::Refusal, number: u8) -> bool {
 }
 
 // check accepts the record, with n and g.
-pub fn accepted(t: Tally, name: &[u8], record: &[u8], n: usize, g: usize) -> Tally {
+pub(crate) fn accepted(t: Tally, name: &[u8], record: &[u8], n: usize, g: usize) -> Tally {
     match gate_list::reader::check(record) {
         Checked::Accepted { n: m, g: h } => {
             if m == n {
@@ -26,7 +26,7 @@ pub fn accepted(t: Tally, name: &[u8], record: &[u8], n: usize, g: usize) -> Tal
 }
 
 // check refuses the record with this number, and gate reading gives an empty part.
-pub fn refused(t: Tally, name: &[u8], record: &[u8], number: u8) -> Tally {
+pub(crate) fn refused(t: Tally, name: &[u8], record: &[u8], number: u8) -> Tally {
     match gate_list::reader::check(record) {
         Checked::Accepted { n: _, g: _ } => row(t, name, false),
         Checked::Refused(r) => {
@@ -40,7 +40,7 @@ pub fn refused(t: Tally, name: &[u8], record: &[u8], number: u8) -> Tally {
 }
 
 // Gate reading gives these bytes.
-pub fn part(t: Tally, name: &[u8], record: &[u8], gates: &[u8]) -> Tally {
+pub(crate) fn part(t: Tally, name: &[u8], record: &[u8], gates: &[u8]) -> Tally {
     row(
         t,
         name,
@@ -68,7 +68,7 @@ fn is_wanted(answer: Written, want: Want) -> bool {
 }
 
 // A writer answered as wanted, and the whole lent buffer, bytes behind the record too, is as expected.
-pub fn written(
+pub(crate) fn written(
     t: Tally,
     name: &[u8],
     answer: Written,
@@ -84,7 +84,7 @@ pub fn written(
 }
 
 // The report reader refuses with this number.
-pub fn report_refused(t: Tally, name: &[u8], s: &[u8], number: u8) -> Tally {
+pub(crate) fn report_refused(t: Tally, name: &[u8], s: &[u8], number: u8) -> Tally {
     match gate_list::reporter::read_report(s) {
         ReportRead::Fields(_) => row(t, name, false),
         ReportRead::Refused(r) => row(t, name, is_number(r, number)),
@@ -92,7 +92,7 @@ pub fn report_refused(t: Tally, name: &[u8], s: &[u8], number: u8) -> Tally {
 }
 
 // The report reader gives these fields.
-pub fn report_fields(t: Tally, name: &[u8], s: &[u8], want: Report) -> Tally {
+pub(crate) fn report_fields(t: Tally, name: &[u8], s: &[u8], want: Report) -> Tally {
     match gate_list::reporter::read_report(s) {
         ReportRead::Fields(r) => row(t, name, same_report(r, want)),
         ReportRead::Refused(_) => row(t, name, false),

@@ -35,7 +35,7 @@ fn patterned(
     on(t, name, record, &mut b, size, want, expected)
 }
 
-pub fn refusals(u: Tally) -> Tally {
+pub(crate) fn refusals(u: Tally) -> Tally {
     let mut t = u;
     t = patterned(
         t,
@@ -71,7 +71,7 @@ pub fn refusals(u: Tally) -> Tally {
     )
 }
 
-pub fn later_refusals(u: Tally) -> Tally {
+pub(crate) fn later_refusals(u: Tally) -> Tally {
     let mut t = u;
     t = patterned(
         t,
@@ -115,7 +115,7 @@ pub fn later_refusals(u: Tally) -> Tally {
     )
 }
 
-pub fn inverses(u: Tally) -> Tally {
+pub(crate) fn inverses(u: Tally) -> Tally {
     let mut t = u;
     t = patterned(
         t,

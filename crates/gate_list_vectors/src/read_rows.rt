@@ -4,7 +4,7 @@ use crate::expect::part;
 use crate::expect::refused;
 use crate::tally::Tally;
 
-pub fn head(u: Tally) -> Tally {
+pub(crate) fn head(u: Tally) -> Tally {
     let mut t = u;
     t = refused(t, b"check: no bytes, 1", b"", 1);
     t = refused(
@@ -29,7 +29,7 @@ pub fn head(u: Tally) -> Tally {
     )
 }
 
-pub fn qubit_limits(u: Tally) -> Tally {
+pub(crate) fn qubit_limits(u: Tally) -> Tally {
     let mut t = u;
     t = refused(t, b"check: n = 0, 3", b"\x51\x43\x00\x00\x00", 3);
     t = refused(t, b"check: n = 17, 3", b"\x51\x43\x11\x00\x00", 3);
@@ -43,7 +43,7 @@ pub fn qubit_limits(u: Tally) -> Tally {
     accepted(t, b"check: n = 16", b"\x51\x43\x10\x00\x00", 16, 0)
 }
 
-pub fn gate_limit(u: Tally) -> Tally {
+pub(crate) fn gate_limit(u: Tally) -> Tally {
     let mut t = u;
     t = refused(
         t,
@@ -54,7 +54,7 @@ pub fn gate_limit(u: Tally) -> Tally {
     refused(t, b"check: g = 65535, 4", b"\x51\x43\x01\xff\xff", 4)
 }
 
-pub fn body(u: Tally) -> Tally {
+pub(crate) fn body(u: Tally) -> Tally {
     let mut t = u;
     t = refused(
         t,
@@ -90,7 +90,7 @@ pub fn body(u: Tally) -> Tally {
     )
 }
 
-pub fn gate_numbers(u: Tally) -> Tally {
+pub(crate) fn gate_numbers(u: Tally) -> Tally {
     let mut t = u;
     t = refused(
         t,
@@ -112,7 +112,7 @@ pub fn gate_numbers(u: Tally) -> Tally {
     )
 }
 
-pub fn one_qubit(u: Tally) -> Tally {
+pub(crate) fn one_qubit(u: Tally) -> Tally {
     let mut t = u;
     t = refused(
         t,
@@ -147,7 +147,7 @@ pub fn one_qubit(u: Tally) -> Tally {
     )
 }
 
-pub fn two_qubits(u: Tally) -> Tally {
+pub(crate) fn two_qubits(u: Tally) -> Tally {
     let mut t = u;
     t = refused(
         t,
@@ -188,7 +188,7 @@ pub fn two_qubits(u: Tally) -> Tally {
     )
 }
 
-pub fn gate_order(u: Tally) -> Tally {
+pub(crate) fn gate_order(u: Tally) -> Tally {
     let mut t = u;
     t = refused(
         t,
@@ -217,7 +217,7 @@ pub fn gate_order(u: Tally) -> Tally {
     )
 }
 
-pub fn parts(u: Tally) -> Tally {
+pub(crate) fn parts(u: Tally) -> Tally {
     let mut t = u;
     t = part(
         t,

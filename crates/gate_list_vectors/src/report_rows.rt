@@ -51,7 +51,7 @@ fn patterned(
     on(t, name, &mut b, size, verdict, want, expected)
 }
 
-pub fn writer(u: Tally) -> Tally {
+pub(crate) fn writer(u: Tally) -> Tally {
     let mut t = u;
     t = patterned(
         t,
@@ -103,7 +103,7 @@ pub fn writer(u: Tally) -> Tally {
     )
 }
 
-pub fn reader(u: Tally) -> Tally {
+pub(crate) fn reader(u: Tally) -> Tally {
     let mut t = u;
     t = report_refused(t, b"report: no bytes, 1", b"", 1);
     t = report_refused(
@@ -138,7 +138,7 @@ pub fn reader(u: Tally) -> Tally {
     )
 }
 
-pub fn reader_fields(u: Tally) -> Tally {
+pub(crate) fn reader_fields(u: Tally) -> Tally {
     let mut t = u;
     t = report_refused(
         t,

@@ -28,7 +28,7 @@ fn patterned(t: Tally, name: &[u8], size: usize, n: usize, want: Want, expected:
     on(t, name, &mut b, size, n, want, expected)
 }
 
-pub fn qubits(u: Tally) -> Tally {
+pub(crate) fn qubits(u: Tally) -> Tally {
     let mut t = u;
     t = patterned(
         t,
@@ -64,7 +64,7 @@ pub fn qubits(u: Tally) -> Tally {
     )
 }
 
-pub fn buffers(u: Tally) -> Tally {
+pub(crate) fn buffers(u: Tally) -> Tally {
     let mut t = u;
     t = patterned(
         t,

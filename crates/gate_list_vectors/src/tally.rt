@@ -7,7 +7,7 @@ pub struct Tally {
 }
 
 // One row: its line, and the counts with it.
-pub fn row(t: Tally, name: &[u8], ok: bool) -> Tally {
+pub(crate) fn row(t: Tally, name: &[u8], ok: bool) -> Tally {
     io::write_all(STDOUT_FILENO, name);
     let rows = std::num::wrapping_add_u32(t.rows, 1);
     if ok {
@@ -24,7 +24,7 @@ pub fn row(t: Tally, name: &[u8], ok: bool) -> Tally {
     }
 }
 
-pub fn total(t: Tally) {
+pub(crate) fn total(t: Tally) {
     io::print_decimal(STDOUT_FILENO, t.rows as u64);
     io::write_all(STDOUT_FILENO, b" rows, ");
     io::print_decimal(STDOUT_FILENO, t.failed as u64);

@@ -16,9 +16,11 @@ use Rattle.phase_sum.specs.Stepping.{replace, outOf, oddHalves, takeOut,
 abbrev pub not-of : ℕ → Parity
 not-of s = record { vars = s; flipped = true }
 
+-- a phase by its parts
 abbrev pub phase : ℕ → List Term → Phase
 phase k ts = record { constant = k; terms = ts }
 
+-- a path sum by its parts
 abbrev pub sum : Phase → List Parity → List ℕ → PathSum
 sum φ ws vs = record { phase = φ; wires = ws; live = vs }
 
@@ -82,11 +84,12 @@ pub odd-half-taken : oddHalves 1 (term 3 2 ∷ term 6 4 ∷ []) ≡ 1
 unfolding oddHalves outOf _△_ xorUpTo bit xor
 odd-half-taken = refl
 
--- a turn with C = 1, and the other way with C = 3
+-- a turn with C = 1
 pub turned-once : turned 1 1 (sum (phase 0 []) [] []) ≡ sum (phase 1 (term 1 6 ∷ [])) [] []
 unfolding turned addTerm addConstant merge keep
 turned-once = refl
 
+-- and the other way with C = 3
 pub turned-thrice : turned 3 1 (sum (phase 0 []) [] []) ≡ sum (phase 7 (term 1 2 ∷ [])) [] []
 unfolding turned addTerm addConstant merge keep
 turned-thrice = refl

@@ -26,12 +26,15 @@ unfoldable pub initial : ℕ → ℕ → PathSum
 initial scratch n =
     record { phase = record { constant = 0; terms = [] }; wires = map (input scratch) (from 0 n); live = [] }
 
+-- the parity of wire q
 abbrev pub wire : ℕ → PathSum → Parity
 wire q s = getD (s .wires) q (of 0)
 
+-- the sum with wire q set to p
 unfoldable pub setWire : ℕ → Parity → PathSum → PathSum
 setWire q p s = record { phase = s .phase; wires = set (s .wires) q p; live = s .live }
 
+-- the sum with another phase
 unfoldable pub withPhase : Phase → PathSum → PathSum
 withPhase φ s = record { phase = φ; wires = s .wires; live = s .live }
 

@@ -11,6 +11,7 @@ pub record Parity : Type 0 where
   pub vars : ℕ
   pub flipped : Bool
 
+-- its value at an assignment
 unfoldable pub value : Parity → ℕ → Bool
 value p x = xor (parity (p .vars) x) (p .flipped)
 

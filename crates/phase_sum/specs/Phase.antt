@@ -9,13 +9,16 @@ use Rattle.amplitude.specs.Bits.{digit, bit}
 use Rattle.phase_sum.specs.Sets.{parity}
 use Rattle.phase_sum.specs.Parity.{Parity}
 
+-- a set and its coefficient
 pub record Term : Type 0 where
   pub set : ℕ
   pub coeff : ℕ
 
+-- a term by its parts
 abbrev pub term : ℕ → ℕ → Term
 term s c = record { set = s; coeff = c }
 
+-- a constant and terms
 pub record Phase : Type 0 where
   pub constant : ℕ
   pub terms : List Term
@@ -56,6 +59,7 @@ merge s c (t ∷ ts) =
 unfoldable pub addTerm : ℕ → ℕ → Phase → Phase
 addTerm s c φ = record { constant = φ .constant; terms = cond (eqb s 0) (φ .terms) (merge s c (φ .terms)) }
 
+-- k added to the constant
 unfoldable pub addConstant : ℕ → Phase → Phase
 addConstant k φ = record { constant = (φ .constant + k) % 8; terms = φ .terms }
 

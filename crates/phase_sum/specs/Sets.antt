@@ -20,6 +20,7 @@ unfoldable pub xorUpTo : ℕ → ℕ → ℕ → ℕ
 xorUpTo zero s r = r
 xorUpTo (suc k) s r = elim (eqb s 0) [ true ↦ r | false ↦ 2 * xorUpTo k (s / 2) (r / 2) + (s + r) % 2 ]
 
+-- the exclusive or
 unfoldable pub _△_ : ℕ → ℕ → ℕ
 s △ r = xorUpTo s s r
 
@@ -28,6 +29,7 @@ unfoldable pub parityUpTo : ℕ → ℕ → ℕ → Bool
 parityUpTo zero s x = false
 parityUpTo (suc k) s x = elim (eqb s 0) [ true ↦ false | false ↦ xor (bit 0 s && bit 0 x) (parityUpTo k (s / 2) (x / 2)) ]
 
+-- the parity
 unfoldable pub parity : ℕ → ℕ → Bool
 parity s x = parityUpTo s s x
 

@@ -66,6 +66,7 @@ turned k l s =
 pub data Kind : Type 0 where
   sum turn constraint : Kind
 
+-- C odd: a turn; C = 0 and L empty: a sum; otherwise a constraint, for a join or a block
 unfoldable pub kindOf : ℕ → ℕ → Kind
 kindOf c l = cond (eqb (c % 2) 1) turn (cond (eqb c 0) (cond (eqb l 0) sum constraint) constraint)
 
