@@ -138,14 +138,6 @@ outcome y s c ready = go (kindOf (cOf y s) (lOf y s)) refl
     go turn h = rw (h, stepWith) (takes (turns y ready h))
     go constraint h = constrains h (firstIn (takeOut y s .live) (lOf y s)) refl
 
--- where the engine goes on from a ready variable, it takes a step
-pub step-at :
-    (y : ℕ) (s : PathSum) (c : Counts) (t : PathSum) (d : Counts) → Ready y s → stepAt y s c ≡ goes t d → Step s c t d
-step-at y s c t d ready e = taken (rw e at (outcome y s c ready))
-  where
-    taken : Outcome s c (goes t d) → Step s c t d
-    taken (takes step) = step
-
 -- the first ready variable is in the list and in no term of odd coefficient
 pub firstReady-some : (ys : List ℕ) (ts : List Term) (y : ℕ) → firstReady ys ts ≡ some y → Among y ys × (inOdd y ts ≡ false)
 unfolding firstReady

@@ -678,11 +678,6 @@ unfolding gatesFrom
 fresh-gates n [] s within fresh = fresh
 fresh-gates n (g ∷ gs) s within fresh = fresh-gates n gs (gate 2 n g s) (within .1) (fresh-gate n g s (within .0) fresh)
 
--- so the sum of a list is fresh
-pub fresh-build : (scratch n : ℕ) (gs : List Gate) → AllWithin n gs → Fresh n (build scratch n gs)
-unfolding build
-fresh-build scratch n gs within = fresh-gates n gs (initial scratch n) within (fresh-initial scratch n)
-
 -- the built sum is the amplitude, exactly, from every input that is clear of the scratch qubits
 pub built : (scratch n : ℕ) (gs : List Gate) → AllWithin n gs → (v w : ℕ) → v < 2 ^ n → w < 2 ^ n → Clear scratch v →
     column gs v w ≡ meaning n (build scratch n gs) v w

@@ -1,10 +1,10 @@
 -- Laws of parities: their values at an assignment, and what replacing a variable by a parity changes.
 -- Assumes nothing.
 use mathlib.Core.Path.{_≡_, refl, sym, _∙_}
-use mathlib.Core.Bool.{Bool, true, false, not, _&&_, xor}
+use mathlib.Core.Bool.{Bool, true, false, not, xor}
 use Prim.Native.Nat.{ℕ}
 use Rattle.amplitude.specs.Bits.{bit, flip}
-use Rattle.amplitude.proofs.BitLaws.{bit-power, bit-power-other}
+use Rattle.amplitude.proofs.BitLaws.{bit-power}
 use Rattle.phase_sum.specs.Sets.{_△_, single, parity}
 use Rattle.phase_sum.specs.Parity.{Parity, value, of, _⊕_, complement, rest, replaceIn}
 use Rattle.amplitude.proofs.XorLaws.{xor-falseʳ, xor-trueˡ, xor-self, xor-comm, xor-assoc, xor-cancel, xor-left-comm, xor-swap}
@@ -34,10 +34,6 @@ value-flip v p x = rw parity-flip (xor-assoc (bit v (p .vars)) (parity (p .vars)
 pub bit-out-same : (z s : ℕ) → bit z s ≡ true → bit z (s △ single z) ≡ false
 bit-out-same z s h = rw (bit-△, h, bit-power) (xor-self true)
 
--- the other variables stay
-pub bit-out-other : (v z s : ℕ) → (v ≡ z → ⊥) → bit v (s △ single z) ≡ bit v s
-bit-out-other v z s ne = rw (bit-△, bit-power-other v z ne) (xor-falseʳ (bit v s))
-
 -- the rest of a parity is free of the variable
 pub rest-free : (z : ℕ) (q : Parity) → bit z (q .vars) ≡ true → bit z (rest z q .vars) ≡ false
 unfolding rest
@@ -66,18 +62,6 @@ replaceIn-free z p w f = go (bit z (w .vars)) refl
     go : (b : Bool) → bit z (w .vars) ≡ b → bit z (replaceIn z p w .vars) ≡ false
     go true h = rw h (rw (bit-△, bit-out-same z (w .vars) h, f) (xor-self false))
     go false h = rw h h
-
--- what it does to the other variables: where z was, those of p are put in
-pub replaceIn-bit-other :
-    (v z : ℕ) (p w : Parity) →
-    (v ≡ z → ⊥) →
-    bit v (replaceIn z p w .vars) ≡ xor (bit v (w .vars)) (bit z (w .vars) && bit v (p .vars))
-unfolding replaceIn _⊕_
-replaceIn-bit-other v z p w ne = go (bit z (w .vars)) refl
-  where
-    go : (b : Bool) → bit z (w .vars) ≡ b → bit v (replaceIn z p w .vars) ≡ xor (bit v (w .vars)) (bit z (w .vars) && bit v (p .vars))
-    go true h = rw h (rw (bit-△, bit-out-other v z (w .vars) ne))
-    go false h = rw h (sym (xor-falseʳ (bit v (w .vars))))
 
 -- a parity without the variable stays
 pub replaceIn-absent : (z : ℕ) (p w : Parity) → bit z (w .vars) ≡ false → replaceIn z p w ≡ w

@@ -213,14 +213,6 @@ pub free-rebuild :
     Free v (rebuild f k ts .terms)
 free-rebuild v f k ts h = every-rebuild (λ s. bit v s ≡ false) f k ts (every-all _ ts (λ t. h (t .set)))
 
--- a variable that no term holds and that no other set brings in is in no rebuilt term
-pub free-rebuild-kept :
-    (v : ℕ) (f : ℕ → Parity) (k : ℕ) (ts : List Term) →
-    ((s : ℕ) → bit v s ≡ false → bit v (f s .vars) ≡ false) →
-    Free v ts →
-    Free v (rebuild f k ts .terms)
-free-rebuild-kept v f k ts h e = every-rebuild (λ s. bit v s ≡ false) f k ts (every-map _ _ ts (λ t. h (t .set)) e)
-
 -- a term kept is at most one more
 length-keep : (s c : ℕ) (ts : List Term) → length (keep s c ts) ≤ suc (length ts)
 length-keep s c ts = keep-cases (λ us. length us ≤ suc (length ts)) s c ts (λ e. omega arith) (λ e. omega arith)

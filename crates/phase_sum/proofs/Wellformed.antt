@@ -10,7 +10,7 @@ use native.Mathlib.Nat.{add-zero, zero-add, add-assoc}
 use native.Mathlib.Numerals.{add-one}
 use native.Mathlib.Omega.{arith}
 use lib.Dec.{eqb}
-use lib.ListN.{length, getD, set, length-set, length-map}
+use lib.ListN.{length, getD, set}
 use borrow.Author.Tests.{eqb-true, eqb-false}
 use Rattle.gate_list.specs.Gate.{Gate, one, two, X, Y, Z, S, S†, T, T†, H, CX, CZ, SWAP, AllWithin, oneQubitKind}
 use Rattle.amplitude.specs.Bits.{bit}
@@ -265,37 +265,6 @@ good-build scratch n gs within = (
   where
     held : Held n (build scratch n gs)
     held = unfold build in held-gates 2 n gs (initial scratch n) (held-initial scratch n)
-
--- a gate keeps the number of wires
-wires-gate : (y n : ℕ) (g : Gate) (s : PathSum) → length (gate y n g s .wires) ≡ length (s .wires)
-unfolding gate hadamard setWire withPhase
-wires-gate y n (one X q) s = simp length-set
-wires-gate y n (one Y q) s = simp length-set
-wires-gate y n (one Z q) s = refl
-wires-gate y n (one S q) s = refl
-wires-gate y n (one S† q) s = refl
-wires-gate y n (one T q) s = refl
-wires-gate y n (one T† q) s = refl
-wires-gate y n (one H q) s = simp length-set
-wires-gate y n (two CX a b) s = simp length-set
-wires-gate y n (two CZ a b) s = refl
-wires-gate y n (two SWAP a b) s = simp length-set
-
--- so do the gates of a list
-wires-gates : (y n : ℕ) (gs : List Gate) (s : PathSum) → length (gatesFrom y n gs s .wires) ≡ length (s .wires)
-unfolding gatesFrom
-wires-gates y n [] s = refl
-wires-gates y n (g ∷ gs) s = wires-gates y n gs (gate y n g s) ∙ wires-gate y n g s
-
--- a built sum has a wire for each qubit
-pub wires-build : (scratch n : ℕ) (gs : List Gate) → length (build scratch n gs .wires) ≡ n
-unfolding build initial
-wires-build scratch n gs = wires-gates 2 n gs (initial scratch n) ∙ (length-map (from 0 n) (input scratch) ∙ from-length 0 n)
-
--- replacing a variable keeps the number of wires
-pub wires-replace : (z : ℕ) (p : Parity) (s : PathSum) → length (replace z p s .wires) ≡ length (s .wires)
-unfolding replace
-wires-replace z p s = length-map (s .wires) (replaceIn z p)
 
 -- a set without z that holds only inputs and live variables holds only those other than z
 holds-without : (n z : ℕ) (live : List ℕ) (s : ℕ) → bit z s ≡ false → Holds n live s → Holds n (without z live) s

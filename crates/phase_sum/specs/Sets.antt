@@ -14,13 +14,12 @@ infixl 60 _△_
 abbrev pub single : ℕ → ℕ
 single v = 2 ^ v
 
--- the exclusive or of two sets: what is in one of them and not in both. (Counted down by the first set, which is empty
--- before the count runs out.)
+-- what is in one of two sets and not in both. (Counted down by the first set, which is empty before the count runs out.)
 unfoldable pub xorUpTo : ℕ → ℕ → ℕ → ℕ
 xorUpTo zero s r = r
 xorUpTo (suc k) s r = elim (eqb s 0) [ true ↦ r | false ↦ 2 * xorUpTo k (s / 2) (r / 2) + (s + r) % 2 ]
 
--- the exclusive or
+-- the exclusive or of two sets
 unfoldable pub _△_ : ℕ → ℕ → ℕ
 s △ r = xorUpTo s s r
 
@@ -29,7 +28,7 @@ unfoldable pub parityUpTo : ℕ → ℕ → ℕ → Bool
 parityUpTo zero s x = false
 parityUpTo (suc k) s x = elim (eqb s 0) [ true ↦ false | false ↦ xor (bit 0 s && bit 0 x) (parityUpTo k (s / 2) (x / 2)) ]
 
--- the parity
+-- the parity of a set at an assignment
 unfoldable pub parity : ℕ → ℕ → Bool
 parity s x = parityUpTo s s x
 
