@@ -13,6 +13,7 @@ use crate::GATE_SIZE;
 use crate::HEAD_SIZE;
 use crate::Refusal;
 use crate::Written;
+use crate::gate;
 use crate::reader::check;
 use crate::write_gate;
 use crate::write_head;
@@ -22,10 +23,10 @@ fn inverse_kind(kind: u8) -> u8
     ensures { λ r. ⌜ r ≡ inverseNumber kind ⌝ }
 {
     match kind {
-        3 => 4,
-        4 => 3,
-        5 => 6,
-        6 => 5,
+        gate::S => gate::S_INVERSE,
+        gate::S_INVERSE => gate::S,
+        gate::T => gate::T_INVERSE,
+        gate::T_INVERSE => gate::T,
         _ => kind,
     }
 }

@@ -17,26 +17,37 @@ ghost use Rattle.gate_list.specs.Writing.{headBytes};
 ghost use Rattle.gate_list.specs.Answer.{numberOf};
 
 // The numbers of the formats (specs/Format.antt), each named once.
+// The two bytes that a gate-list record begins with.
 pub const LIST_MARK: [u8; 2] = [0x51, 0x43];
 
+// The two bytes that a report record begins with.
 pub const REPORT_MARK: [u8; 2] = [0x51, 0x56];
 
+// The bytes of a record's head: mark, n, g.
 pub const HEAD_SIZE: usize = 5;
 
+// The bytes of a gate: kind, a, b.
 pub const GATE_SIZE: usize = 3;
 
+// The bytes of a report record.
 pub const REPORT_SIZE: usize = 12;
 
+// n is from 1 to this.
 pub const MOST_QUBITS: usize = 16;
 
+// g is from 0 to this.
 pub const MOST_GATES: usize = 512;
-// Kinds 0 to 7 act on one qubit, 8 to 10 on two.
-pub const LAST_ONE_QUBIT: u8 = 7;
 
-pub const LAST_KIND: u8 = 10;
+// The kinds up to this act on one qubit.
+pub const LAST_ONE_QUBIT: u8 = gate::H;
+
+// The kinds above it, up to this, act on two.
+pub const LAST_KIND: u8 = gate::SWAP;
+
 // b of a gate on one qubit.
 pub const NO_QUBIT: u8 = 255;
 
+// Verdicts are from 0 to this.
 pub const LAST_VERDICT: u8 = 2;
 
 // Why a call is turned down. specs/Answer.antt gives each case document 01's number.
@@ -112,12 +123,14 @@ fn from_bytes(low: u8, high: u8) -> u16
     low as u16 + 256 * (high as u16)
 }
 
+// The low byte of a two-byte number.
 fn low_byte(x: u16) -> u8
     ensures { λ r. ⌜ r ≡ x % 256 ⌝ }
 {
     (x % 256) as u8
 }
 
+// The high byte of a two-byte number.
 fn high_byte(x: u16) -> u8
     ensures { λ r. ⌜ r ≡ x / 256 % 256 ⌝ }
 {
