@@ -11,7 +11,7 @@ use lib.Dec.{eqb}
 use lib.ListN.{length}
 use borrow.Author.Tests.{eq-eqb, ne-eqb, eqb-true, eqb-false}
 use Rattle.gate_list.specs.Gate.{Gate, one, two, X, Y, Z, S, S†, T, T†, H, CX, CZ, SWAP}
-use Rattle.phase_sum.specs.Sets.{firstIn}
+use Rattle.phase_sum.specs.Sets.{firstIn, firstSuch}
 use Rattle.phase_sum.specs.Parity.{Parity, rest}
 use Rattle.phase_sum.specs.Phase.{Term, Phase, sumAt, phaseAt, minus, addTerm, addConstant, addPhase, rebuild}
 use Rattle.phase_sum.specs.Building.{PathSum, initial, setWire, withPhase, hadamard, gate, gatesFrom, build}
@@ -196,7 +196,7 @@ eqb-shift j k a b = go (eqb ((k + a) % 8) ((k + b) % 8)) refl
 
 -- so two phases with the same terms first differ at the same input
 same-differing : {φ ψ : Phase} (vs : List ℕ) → SameTerms φ ψ → firstDiffering φ vs ≡ firstDiffering ψ vs
-unfolding firstDiffering phaseAt
+unfolding firstSuch phaseAt
 same-differing [] r = refl
 same-differing (v ∷ vs) (same {j} {k} {ts}) =
     rw (eqb-shift j k (sumAt ts v) (sumAt ts 0), same-differing vs (same {j = j} {k = k} {ts = ts}))

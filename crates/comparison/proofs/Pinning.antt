@@ -24,7 +24,7 @@ use Rattle.phase_sum.specs.Stepping.{replace}
 use Rattle.phase_sum.specs.Meaning.{sumOver, phasor, closes, onDiagonal, remaining}
 use Rattle.amplitude.proofs.XorLaws.{xor-falseˡ, xor-falseʳ, xor-self}
 use Rattle.phase_sum.proofs.SetLaws.{△-cancel, △-idl, parity-zero, power-flip}
-use Rattle.phase_sum.proofs.VariableLaws.{firstIn-some, firstIn-none, among-from}
+use Rattle.phase_sum.proofs.VariableLaws.{firstSuch-some, firstSuch-none, among-from}
 use Rattle.phase_sum.proofs.ParityLaws.{value-⊕, value-flip}
 use Rattle.phase_sum.proofs.Summing.{sumOver-without, sumOver-on, sumOver-zero}
 use Rattle.phase_sum.proofs.Replacing.{pin-law, pinned-wire, kept-wire, input-free, closes-open}
@@ -193,7 +193,7 @@ pin-from scratch n (suc m) q s c sum good wires below =
     go : (f : Option ℕ) → firstIn (s .live) (Q .vars) ≡ f → Rest → PinEnd scratch n s c (pinFrom scratch (suc m) q s c)
     go none e later = free (isZero Q) refl e later
     go (some z) e later =
-        let found = firstIn-some (s .live) (Q .vars) z e in
+        let found = firstSuch-some (λ v. bit v (Q .vars)) (s .live) z e in
         rw (e, pinFrom)
         (pin-first scratch n q z s (omega arith) good (found .0) (found .1) c _
         (later (pinnedAt scratch q z s) (addPin c)
@@ -294,7 +294,7 @@ none-empty : (n s : ℕ) → ((v : ℕ) → bit v s ≡ true → v < n) → firs
 none-empty n s inputs e = bits-ext s 0 (λ v. go v (bit v s) refl ∙ sym (bit-zero v))
   where
     go : (v : ℕ) (b : Bool) → bit v s ≡ b → bit v s ≡ false
-    go v true h = firstIn-none (from 0 n) s e v (among-from 0 n v (omega arith) (omega (arith, inputs v h)))
+    go v true h = firstSuch-none (λ u. bit u s) (from 0 n) e v (among-from 0 n v (omega arith) (omega (arith, inputs v h)))
     go v false h = h
 
 -- the input of a blocked parity, which holds only inputs and is not constantly 0, makes it 1
@@ -321,7 +321,7 @@ blocked-input n q inputs nonzero = go (q .flipped) refl (firstIn (from 0 n) (q .
     go false b none e =
         absurd (true≢false (sym (rw (b, eq-eqb (q .vars) 0 (none-empty n (q .vars) inputs e))) ∙ nonzero))
     go false b (some v) e =
-        let found = firstIn-some (from 0 n) (q .vars) v e in
+        let found = firstSuch-some (λ u. bit u (q .vars)) (from 0 n) v e in
         input-is (2 ^ v) (rw (b, e)) (pow-lt (inputs v (found .1))) (value-power q v ∙ rw (found .1, b) (xor-falseʳ true))
 
 -- where pinning is blocked, the diagonal is 0 at that input: no assignment closes there

@@ -10,7 +10,7 @@ use Prim.Native.Nat.{ℕ, zero, suc, _+_, _*_, _/_, _%_, _<_, _≤_}
 use native.Mathlib.Omega.{arith}
 use lib.Dec.{eqb}
 use lib.ListN.{length}
-use borrow.Author.Tests.{eqb-true, eqb-false}
+use borrow.Author.Tests.{eqb-true, eqb-false, not-true, not-false}
 use Rattle.amplitude.specs.Number.{0ω, √2^}
 use Rattle.amplitude.specs.Bits.{bit}
 use Rattle.amplitude.proofs.NumberLaws.{√2^-add}
@@ -20,7 +20,7 @@ use Rattle.phase_sum.specs.Phase.{Term, inOdd}
 use Rattle.phase_sum.specs.Building.{PathSum}
 use Rattle.phase_sum.specs.Stepping.{replace, firstReady, takeOut, turned, Kind, sum, turn, constraint, kindOf, constrained}
 use Rattle.phase_sum.specs.Meaning.{both, sumOver, phasor, remaining}
-use Rattle.phase_sum.proofs.VariableLaws.{among-cases, firstIn-some, firstIn-none, without-among}
+use Rattle.phase_sum.proofs.VariableLaws.{firstSuch-some, firstSuch-none, without-among}
 use Rattle.phase_sum.proofs.Summing.{sumOver-√2^, sumOver-zero, sumOver-without, sumOver-on}
 use Rattle.phase_sum.proofs.StepLaws.{constraint-kind, sum-law, turn-law, constraint-law, join-law}
 use Rattle.phase_sum.proofs.Wellformed.{Good, good-takeOut, live-takeOut, good-turned, good-replace, live-replace, holds-oddHalves}
@@ -128,9 +128,9 @@ outcome y s c ready = go (kindOf (cOf y s) (lOf y s)) refl
         → firstIn (takeOut y s .live) (lOf y s) ≡ o
         → Outcome s c (stepAt y s c)
     constrains h none f =
-        rw (h, stepWith, f) (blocked (record { y = y; ready = ready; kind = h; same = refl; free = firstIn-none (takeOut y s .live) (lOf y s) f }))
+        rw (h, stepWith, f) (blocked (record { y = y; ready = ready; kind = h; same = refl; free = firstSuch-none (λ z. bit z (lOf y s)) (takeOut y s .live) f }))
     constrains h (some z) f =
-        let found = firstIn-some (takeOut y s .live) (lOf y s) z f in
+        let found = firstSuch-some (λ v. bit v (lOf y s)) (takeOut y s .live) z f in
         rw (h, stepWith, f) (takes (joins y z ready h (found .0) (found .1)))
 
     go : (k : Kind) → kindOf (cOf y s) (lOf y s) ≡ k → Outcome s c (stepAt y s c)
@@ -138,28 +138,15 @@ outcome y s c ready = go (kindOf (cOf y s) (lOf y s)) refl
     go turn h = rw (h, stepWith) (takes (turns y ready h))
     go constraint h = constrains h (firstIn (takeOut y s .live) (lOf y s)) refl
 
--- the first ready variable is in the list and in no term of odd coefficient
-pub firstReady-some : (ys : List ℕ) (ts : List Term) (y : ℕ) → firstReady ys ts ≡ some y → Among y ys × (inOdd y ts ≡ false)
-unfolding firstReady
-firstReady-some [] ts y e = absurd (Option·none-ne-some y e)
-firstReady-some (u ∷ ys) ts y e = go (inOdd u ts) refl (firstReady-some ys ts y)
-  where
-    go :
-        (b : Bool)
-        → inOdd u ts ≡ b
-        → (firstReady ys ts ≡ some y → Among y ys × (inOdd y ts ≡ false))
-        → Among y (u ∷ ys) × (inOdd y ts ≡ false)
-    go true h later = let r = later (rw h at e) in (there (r .0), r .1)
-    go false h later = rw (← Option·some-injective u y (rw h at e)) (here, h)
+-- a variable found ready is in the list, and in no term of odd coefficient
+firstReady-some : (ys : List ℕ) (ts : List Term) (y : ℕ) → firstReady ys ts ≡ some y → Among y ys × (inOdd y ts ≡ false)
+firstReady-some ys ts y e =
+    let found = firstSuch-some (λ u. not (inOdd u ts)) ys y e in
+    (found .0, not-true (inOdd y ts) (found .1))
 
 -- where there is none, each variable of the list is in one
-pub firstReady-none : (ys : List ℕ) (ts : List Term) → firstReady ys ts ≡ none → (y : ℕ) → Among y ys → inOdd y ts ≡ true
-unfolding firstReady
-firstReady-none (u ∷ ys) ts e y a = go (inOdd u ts) refl (firstReady-none ys ts)
-  where
-    go : (b : Bool) → inOdd u ts ≡ b → (firstReady ys ts ≡ none → (y : ℕ) → Among y ys → inOdd y ts ≡ true) → inOdd y ts ≡ true
-    go true h later = among-cases a (λ same. rw same h) (later (rw h at e) y)
-    go false h later = absurd (Option·some-ne-none u (rw h at e))
+firstReady-none : (ys : List ℕ) (ts : List Term) → firstReady ys ts ≡ none → (y : ℕ) → Among y ys → inOdd y ts ≡ true
+firstReady-none ys ts e y a = not-false (inOdd y ts) (firstSuch-none (λ u. not (inOdd u ts)) ys e y a)
 
 -- no live variable is ready
 abbrev NoneReady : PathSum → Type 0

@@ -15,7 +15,7 @@ use lib.Pow.{pow-pos}
 use borrow.Author.Tests.{eqb-true, eqb-false, ltb-true, ltb-false}
 use Rattle.amplitude.specs.Bits.{digit, bit, flip}
 use Rattle.amplitude.proofs.BitLaws.{bit-zero, bit-above, bit-flip-same, bit-flip-other}
-use Rattle.phase_sum.specs.Sets.{parity, Among, here, there, Clear}
+use Rattle.phase_sum.specs.Sets.{parity, Among, here, there, Clear, firstSuch}
 use Rattle.phase_sum.specs.Phase.{Term, Phase, sumAt, phaseAt}
 use Rattle.phase_sum.specs.Stepping.{coeffs}
 use Rattle.amplitude.proofs.XorLaws.{xor-falseˡ, xor-trueˡ}
@@ -308,7 +308,7 @@ data Search (φ : Phase) : List ℕ → Option ℕ → Type 0 where
 
 -- the first that differs is the answer of such a search
 run-search : (φ : Phase) (us : List ℕ) (o : Option ℕ) → firstDiffering φ us ≡ o → Search φ us o
-unfolding firstDiffering
+unfolding firstSuch
 run-search φ [] o e = rw (← e) end
 run-search φ (u ∷ us) o e = go (run-search φ us o) (eqb (phaseAt φ u % 8) (phaseAt φ 0 % 8)) refl
   where

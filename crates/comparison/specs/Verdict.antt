@@ -1,14 +1,14 @@
 -- The search over inputs of weight up to 3, the verdict, its two inputs and the counts: document 01, "Reducing it".
 -- Assumes nothing.
 use Prim.Native.Nat.{ℕ, zero, suc, _+_, _%_, _^_}
-use mathlib.Core.Bool.{true, false, cond}
+use mathlib.Core.Bool.{true, false, cond, not}
 use mathlib.Core.List.{List, [], _∷_, _++_, map}
 use mathlib.Core.Option.{Option, none, some}
 use lib.ListN.{length}
 use lib.Dec.{eqb}
 use Rattle.gate_list.specs.Gate.{Gate, inverseList}
 use Rattle.amplitude.specs.Bits.{bit}
-use Rattle.phase_sum.specs.Sets.{firstIn, from}
+use Rattle.phase_sum.specs.Sets.{firstIn, from, firstSuch}
 use Rattle.phase_sum.specs.Parity.{Parity}
 use Rattle.phase_sum.specs.Phase.{Phase, phaseAt}
 use Rattle.phase_sum.specs.Building.{build}
@@ -26,9 +26,8 @@ abbrev pub candidates : ℕ → ℕ → List ℕ
 candidates scratch n = weight scratch 1 n ++ weight scratch 2 n ++ weight scratch 3 n
 
 -- the first input of a list whose phase differs from that of input 0
-unfoldable pub firstDiffering : Phase → List ℕ → Option ℕ
-firstDiffering φ [] = none
-firstDiffering φ (v ∷ vs) = cond (eqb (phaseAt φ v % 8) (phaseAt φ 0 % 8)) (firstDiffering φ vs) (some v)
+abbrev pub firstDiffering : Phase → List ℕ → Option ℕ
+firstDiffering φ vs = firstSuch (λ v. not (eqb (phaseAt φ v % 8) (phaseAt φ 0 % 8))) vs
 
 -- the three verdicts
 pub data Verdict : Type 0 where

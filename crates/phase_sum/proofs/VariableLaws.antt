@@ -1,7 +1,7 @@
--- Laws of lists of variables: the first that a set holds, a list without one of them, rising lists, and the numbers from a on.
+-- Laws of lists of variables: the first that passes a test, a list without one of them, rising lists, and the numbers from a on.
 -- Assumes nothing.
-use mathlib.Core.Path.{_≡_, refl, ap}
-use mathlib.Core.Bool.{Bool, true, false}
+use mathlib.Core.Path.{_≡_, refl, ap, sym, _∙_}
+use mathlib.Core.Bool.{Bool, true, false, true≢false}
 use mathlib.Core.List.{List, [], _∷_, _++_}
 use mathlib.Core.Option.{none, some, Option·some-injective, Option·none-ne-some, Option·some-ne-none}
 use Prim.Native.Nat.{ℕ, zero, suc, _+_, _<_, _≤_}
@@ -10,8 +10,7 @@ use native.Mathlib.Omega.{arith}
 use lib.Dec.{eqb}
 use lib.ListN.{length}
 use borrow.Author.Tests.{eqb-true, eqb-false, eq-eqb, ne-eqb}
-use Rattle.amplitude.specs.Bits.{bit}
-use Rattle.phase_sum.specs.Sets.{firstIn, without, from, Among, here, there}
+use Rattle.phase_sum.specs.Sets.{without, from, Among, here, there, firstSuch}
 
 -- each variable is smaller than those behind it
 abbrev pub Rising : List ℕ → Type 0
@@ -23,27 +22,47 @@ pub among-cases : {P : Type 0} {v u : ℕ} {us : List ℕ} → Among v (u ∷ us
 among-cases here first later = first refl
 among-cases (there a) first later = later a
 
--- a variable found is in the list and in the set
-pub firstIn-some : (vs : List ℕ) (s z : ℕ) → firstIn vs s ≡ some z → Among z vs × (bit z s ≡ true)
-unfolding firstIn
-firstIn-some [] s z e = absurd (Option·none-ne-some z e)
-firstIn-some (v ∷ vs) s z e = go (bit v s) refl (firstIn-some vs s z)
+-- the number found is in the list and passes the test
+pub firstSuch-some : (test : ℕ → Bool) (vs : List ℕ) (z : ℕ) → firstSuch test vs ≡ some z → Among z vs × (test z ≡ true)
+unfolding firstSuch
+firstSuch-some test [] z e = absurd (Option·none-ne-some z e)
+firstSuch-some test (v ∷ vs) z e = go (test v) refl (firstSuch-some test vs z)
   where
     go :
-        (b : Bool) → bit v s ≡ b →
-        (firstIn vs s ≡ some z → Among z vs × (bit z s ≡ true)) →
-        Among z (v ∷ vs) × (bit z s ≡ true)
+        (b : Bool) → test v ≡ b →
+        (firstSuch test vs ≡ some z → Among z vs × (test z ≡ true)) →
+        Among z (v ∷ vs) × (test z ≡ true)
     go true h later = rw (← Option·some-injective v z (rw h at e)) (here, h)
     go false h later = let found = later (rw h at e) in (there (found .0), found .1)
 
--- where none is found, the set holds no variable of the list
-pub firstIn-none : (vs : List ℕ) (s : ℕ) → firstIn vs s ≡ none → (v : ℕ) → Among v vs → bit v s ≡ false
-unfolding firstIn
-firstIn-none (u ∷ vs) s e v a = go (bit u s) refl (firstIn-none vs s)
+-- where none is found, none of the list passes
+pub firstSuch-none : (test : ℕ → Bool) (vs : List ℕ) → firstSuch test vs ≡ none → (v : ℕ) → Among v vs → test v ≡ false
+unfolding firstSuch
+firstSuch-none test (u ∷ vs) e v a = go (test u) refl (firstSuch-none test vs)
   where
-    go : (b : Bool) → bit u s ≡ b → (firstIn vs s ≡ none → (v : ℕ) → Among v vs → bit v s ≡ false) → bit v s ≡ false
+    go : (b : Bool) → test u ≡ b → (firstSuch test vs ≡ none → (v : ℕ) → Among v vs → test v ≡ false) → test v ≡ false
     go true h later = absurd (Option·some-ne-none u (rw h at e))
     go false h later = among-cases a (λ same. rw same h) (later (rw h at e) v)
+
+-- in a rising list the number found is the lowest that passes
+pub firstSuch-lowest :
+    (test : ℕ → Bool) (vs : List ℕ) (z : ℕ) →
+    Rising vs →
+    firstSuch test vs ≡ some z →
+    (v : ℕ) →
+    Among v vs →
+    test v ≡ true →
+    z ≤ v
+unfolding firstSuch
+firstSuch-lowest test [] z r e v a h = absurd (Option·none-ne-some z e)
+firstSuch-lowest test (u ∷ vs) z r e v a h = go (test u) refl (firstSuch-lowest test vs z (r .1))
+  where
+    go : (b : Bool) → test u ≡ b → (firstSuch test vs ≡ some z → (w : ℕ) → Among w vs → test w ≡ true → z ≤ w) → z ≤ v
+    go true k later =
+        let same : u ≡ z = Option·some-injective u z (rw k at e) in
+        among-cases a (λ i. omega arith) (λ b. omega (arith, r .0 v b))
+    go false k later =
+        among-cases a (λ i. absurd (true≢false (sym h ∙ rw i k))) (λ b. later (rw k at e) v b h)
 
 -- what is in a list without v is in the list, and is not v
 pub without-among : (v : ℕ) (us : List ℕ) {u : ℕ} → Among u (without v us) → Among u us × (u ≡ v → ⊥)

@@ -22,11 +22,11 @@ use Rattle.phase_sum.specs.Phase.{Term, Phase, addConstant, addPhase, re
 use Rattle.phase_sum.specs.Building.{PathSum, input, initial, wire, setWire, withPhase, turnBy, product, hadamard, gate, gatesFrom, build}
 use Rattle.phase_sum.specs.Stepping.{replace, outOf, oddHalves, takeOut, turned}
 use Rattle.phase_sum.proofs.SetLaws.{bit-△}
-use Rattle.phase_sum.proofs.VariableLaws.{Rising, without-among, among-without, rising-without, length-without, from-among, from-rising, from-length, from-snoc, firstIn-none}
+use Rattle.phase_sum.proofs.VariableLaws.{Rising, without-among, among-without, rising-without, length-without, from-among, from-rising, from-length, from-snoc, firstSuch-none, firstSuch-lowest}
 use Rattle.phase_sum.proofs.ParityLaws.{bit-out-same, rest-free, replaceIn-free}
 use Rattle.phase_sum.proofs.PhaseLaws.{Every, every-map, every-addPhase, every-rebuild, constant-below-addConstant, constant-below-addPhase, constant-below-rebuild}
 use Rattle.phase_sum.proofs.Replacing.{wire-replace}
-use mathlib.Core.Option.{none}
+use mathlib.Core.Option.{none, some}
 use Rattle.phase_sum.proofs.CanonicalLaws.{canonical-addPhase, canonical-rebuild}
 
 -- a set holds only inputs and live variables
@@ -401,4 +401,10 @@ holds-mismatch scratch n q s l h =
 pub holds-inputs :
     (n : ℕ) (live : List ℕ) (s : ℕ) → Holds n live s → firstIn live s ≡ none → (v : ℕ) → bit v s ≡ true → v < n
 holds-inputs n live s holds e v h =
-    ⊎-elim (λ low. low) (λ a. absurd (true≢false (sym h ∙ firstIn-none live s e v a))) (holds v h)
+    ⊎-elim (λ low. low) (λ a. absurd (true≢false (sym h ∙ firstSuch-none (λ u. bit u s) live e v a))) (holds v h)
+
+-- and a live variable that is found in it is its lowest path variable
+pub holds-lowest :
+    (n z : ℕ) (s : PathSum) (u : ℕ) → Good n s → Holds n (s .live) u → firstIn (s .live) u ≡ some z → (v : ℕ) → n ≤ v → bit v u ≡ true → z ≤ v
+holds-lowest n z s u good holds e v above h =
+    ⊎-elim (λ low. absurd (omega arith)) (λ a. firstSuch-lowest (λ w. bit w u) (s .live) z (good .rising) e v a h) (holds v h)

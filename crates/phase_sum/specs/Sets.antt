@@ -32,10 +32,14 @@ parityUpTo (suc k) s x = elim (eqb s 0) [ true ↦ false | false ↦ xor (bit 0 
 unfoldable pub parity : ℕ → ℕ → Bool
 parity s x = parityUpTo s s x
 
+-- the first number of a list that passes a test
+unfoldable pub firstSuch : (ℕ → Bool) → List ℕ → Option ℕ
+firstSuch test [] = none
+firstSuch test (v ∷ vs) = cond (test v) (some v) (firstSuch test vs)
+
 -- the first variable of a list that a set holds
-unfoldable pub firstIn : List ℕ → ℕ → Option ℕ
-firstIn [] s = none
-firstIn (v ∷ vs) s = cond (bit v s) (some v) (firstIn vs s)
+abbrev pub firstIn : List ℕ → ℕ → Option ℕ
+firstIn vs s = firstSuch (λ v. bit v s) vs
 
 -- the list without a variable
 unfoldable pub without : ℕ → List ℕ → List ℕ

@@ -2,12 +2,12 @@
 -- out, as a sum, a turn or a join.
 -- Assumes nothing.
 use Prim.Native.Nat.{ℕ, _+_, _/_, _%_}
-use mathlib.Core.Bool.{cond}
+use mathlib.Core.Bool.{cond, not}
 use mathlib.Core.List.{List, [], _∷_, map}
-use mathlib.Core.Option.{Option, none, some}
+use mathlib.Core.Option.{Option}
 use lib.Dec.{eqb}
 use Rattle.amplitude.specs.Bits.{bit}
-use Rattle.phase_sum.specs.Sets.{_△_, single, without}
+use Rattle.phase_sum.specs.Sets.{_△_, single, without, firstSuch}
 use Rattle.phase_sum.specs.Parity.{Parity, of, replaceIn}
 use Rattle.phase_sum.specs.Phase.{Term, addConstant, addTerm, rebuild, inOdd}
 use Rattle.phase_sum.specs.Building.{PathSum}
@@ -22,9 +22,8 @@ replace z p s =
     }
 
 -- y is ready: summed over, and in no term of odd coefficient. The first ready variable of a list:
-unfoldable pub firstReady : List ℕ → List Term → Option ℕ
-firstReady [] ts = none
-firstReady (y ∷ ys) ts = cond (inOdd y ts) (firstReady ys ts) (some y)
+abbrev pub firstReady : List ℕ → List Term → Option ℕ
+firstReady ys ts = firstSuch (λ y. not (inOdd y ts)) ys
 
 -- the coefficients of the terms that hold y, added up
 unfoldable pub coeffs : ℕ → List Term → ℕ
