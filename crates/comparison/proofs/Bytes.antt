@@ -1,25 +1,28 @@
 -- The demands for two records: whatever bytes two accepted records on n qubits hold, their comparison meets them, and their terms fit
--- the 3136 places of the workspaces where the pair has at most 64 variables.
+-- the places of a workspace.
 -- Assumes nothing.
-use mathlib.Core.Path.{_≡_}
-use Prim.Native.Nat.{ℕ, _+_, _≤_}
+use Prim.Native.Nat.{ℕ}
 use mathlib.Core.List.{List}
 use Rattle.gate_list.specs.Gate.{Gate}
-use Rattle.gate_list.specs.Reading.{accepted, read}
+use Rattle.gate_list.specs.Promises.{Sound}
 use Rattle.gate_list.proofs.Theorems.{accepted-is-sound}
-use Rattle.amplitude.specs.Circuit.{hGates}
-use Rattle.phase_sum.specs.Room.{room}
 use Rattle.phase_sum.proofs.Roominess.{room-fits}
-use Rattle.comparison.specs.Demands.{Demands}
+use Rattle.comparison.specs.Demands.{Accepted, PairFits, Demands}
 use Rattle.comparison.proofs.Theorems.{demands}
 
-module _ (s t : List ℕ) (n : ℕ) (first second : List Gate) (l : read s ≡ accepted n first) (r : read t ≡ accepted n second) where
+module _ (s t : List ℕ) (n : ℕ) (first second : List Gate) (pair : Accepted s t n first second) where
+  -- the first record is sound
+  sound-first : Sound s n first
+  sound-first = accepted-is-sound s n first (pair .reads-first)
+
+  -- and the second
+  sound-second : Sound t n second
+  sound-second = accepted-is-sound t n second (pair .reads-second)
+
   -- all demands
   pub demands-pair : Demands n first second
-  demands-pair = demands n first second (accepted-is-sound s n first l .within) (accepted-is-sound t n second r .within)
+  demands-pair = demands n first second (sound-first .within) (sound-second .within)
 
-  -- a pair with at most 64 variables has room for at most 3136 terms
-  pub room-fits-pair : n + (hGates first + hGates second) ≤ 64 → room first second ≤ 3136
-  room-fits-pair =
-      let one = accepted-is-sound s n first l in
-      room-fits n first second (one .few-gates) (accepted-is-sound t n second r .few-gates) (one .some-qubit)
+  -- the places of a workspace are enough
+  pub room-fits-pair : PairFits n first second
+  room-fits-pair = room-fits n first second (sound-first .few-gates) (sound-second .few-gates) (sound-first .some-qubit)

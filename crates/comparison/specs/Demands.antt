@@ -9,6 +9,7 @@ use mathlib.Core.List.{List, []}
 use mathlib.Core.Option.{none, some}
 use lib.ListN.{length}
 use Rattle.gate_list.specs.Gate.{Gate}
+use Rattle.gate_list.specs.Reading.{accepted, read}
 use Rattle.amplitude.specs.Number.{√2^}
 use Rattle.amplitude.specs.Circuit.{Fits, Carries, column, hGates, tGates}
 use Rattle.phase_sum.specs.Sets.{Among}
@@ -16,7 +17,7 @@ use Rattle.phase_sum.specs.Parity.{Parity}
 use Rattle.phase_sum.specs.Phase.{Canonical, minus, inOdd}
 use Rattle.phase_sum.specs.Building.{PathSum, build}
 use Rattle.phase_sum.specs.Meaning.{remaining}
-use Rattle.phase_sum.specs.Room.{room}
+use Rattle.phase_sum.specs.Room.{room, mostVariables, places}
 use Rattle.comparison.specs.Reduction.{Counts, End, factor}
 use Rattle.comparison.specs.Steps.{Steps, Blocked}
 use Rattle.comparison.specs.Verdict.{Result, equal, different, undecided, joined, pinnedOf, endOf, compare}
@@ -130,6 +131,15 @@ module _ (n : ℕ) (first second : List Gate) where
   -- and those of every sum that steps reach from the pinned one
   abbrev pub EveryStepFits : Type 0
   EveryStepFits = (t : PathSum) (d : Counts) → Reached 0 n first second t d → Fitting t
+
+-- a pair of accepted records: both read, on the same qubits
+pub record Accepted (s t : List ℕ) (n : ℕ) (first second : List Gate) : Type 0 where
+  pub reads-first : read s ≡ accepted n first
+  pub reads-second : read t ≡ accepted n second
+
+-- the terms of an accepted pair with at most 64 variables fit the 3,136 places of a workspace, at every step
+abbrev pub PairFits : ℕ → List Gate → List Gate → Type 0
+PairFits n first second = n + (hGates first + hGates second) ≤ mostVariables → room first second ≤ places
 
 -- all of it, for a pair
 pub record Demands (n : ℕ) (first second : List Gate) : Type 0 where

@@ -6,7 +6,7 @@ use Prim.Native.Nat.{ℕ}
 use mathlib.Core.Option.{none, some}
 use mathlib.Core.List.{[], _∷_, _++_}
 use Rattle.gate_list.specs.Format.{listMark}
-use Rattle.gate_list.specs.Gate.{one, two, S, S†, T†, T, H, CX, gateOf, inverseKind, inverseGate, inverseList}
+use Rattle.gate_list.specs.Gate.{one, two, S, S†, T†, T, H, CX, gateOf, inverseKind, inverseGate, inverseList, X, Y, Z, CZ, SWAP}
 use Rattle.gate_list.specs.Row.{Fault, first}
 use Rattle.gate_list.specs.Reading.{raws, allGateRows, recordRows, accepted, refused, read}
 
@@ -62,6 +62,17 @@ second-gate-bad = refl
 pub two-gates : read (listMark ++ 2 ∷ 2 ∷ 0 ∷ 7 ∷ 0 ∷ 255 ∷ 8 ∷ 0 ∷ 1 ∷ 99 ∷ []) ≡ accepted 2 (one H 0 ∷ two CX 0 1 ∷ [])
 unfolding read recordRows first allGateRows raws gateOf
 two-gates = refl
+
+-- the kinds 0 to 10, one gate of each
+pub every-kind :
+    read
+    (listMark
+    ++ 2 ∷ 11 ∷ 0 ∷ 0 ∷ 0 ∷ 255 ∷ 1 ∷ 0 ∷ 255 ∷ 2 ∷ 0 ∷ 255 ∷ 3 ∷ 0 ∷ 255 ∷ 4 ∷ 0 ∷ 255 ∷ 5 ∷ 0 ∷ 255 ∷ 6 ∷ 0 ∷ 255 ∷ 7 ∷ 0 ∷ 255
+    ∷ 8 ∷ 0 ∷ 1 ∷ 9 ∷ 0 ∷ 1 ∷ 10 ∷ 0 ∷ 1 ∷ [])
+    ≡ accepted 2
+    (one X 0 ∷ one Y 0 ∷ one Z 0 ∷ one S 0 ∷ one S† 0 ∷ one T 0 ∷ one T† 0 ∷ one H 0 ∷ two CX 0 1 ∷ two CZ 0 1 ∷ two SWAP 0 1 ∷ [])
+unfolding read recordRows first allGateRows raws gateOf
+every-kind = refl
 
 -- S on 0, T on 1, CX from 0 to 1: backwards, S and T exchanged for their inverses
 pub inverse-of-three : inverseList (one S 0 ∷ one T 1 ∷ two CX 0 1 ∷ []) ≡ two CX 0 1 ∷ one T† 1 ∷ one S† 0 ∷ []

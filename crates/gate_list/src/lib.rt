@@ -10,7 +10,7 @@ pub mod reporter;
 ghost use mathlib.Core.Path.{_≡_};
 ghost use Prim.Native.Nat.{_+_, _/_, _%_, _≤_};
 ghost use lib.ListN.{length, take, drop};
-ghost use mathlib.Core.List.{[], _∷_, _++_};
+ghost use mathlib.Core.List.{_∷_, _++_};
 ghost use Rattle.gate_list.specs.Format.{headSize, gateSize, fromBytes};
 ghost use Rattle.gate_list.specs.Reading.{marked};
 ghost use Rattle.gate_list.specs.Writing.{headBytes};

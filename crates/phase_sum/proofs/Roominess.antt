@@ -16,8 +16,9 @@ use Rattle.phase_sum.specs.Parity.{Parity, of, _⊕_, replaceIn}
 use Rattle.phase_sum.specs.Phase.{addConstant, addPhase}
 use Rattle.phase_sum.specs.Building.{PathSum, initial, wire, setWire, withPhase, product, hadamard, gate, gatesFrom, build}
 use Rattle.phase_sum.specs.Stepping.{replace, outOf, takeOut, turned}
-use Rattle.phase_sum.specs.Room.{roomFor, room}
+use Rattle.phase_sum.specs.Room.{roomFor, room, mostVariables, places}
 use Rattle.phase_sum.proofs.PhaseLaws.{length-addTerm, length-addPhase, length-rebuild}
+use Rattle.gate_list.specs.Format.{mostGates}
 
 -- the terms and the live variables of a sum
 abbrev size : PathSum → ℕ
@@ -113,12 +114,12 @@ unfolding tally
 tally-bound [] = omega arith
 tally-bound (g ∷ gs) = omega (arith, roomFor-bound g, tally-bound gs)
 
--- the room of two lists within the limits is at most 3136
+-- two lists within the limits have room in a workspace
 pub room-fits :
     (n : ℕ) (first second : List Gate) →
-    length first ≤ 512 →
-    length second ≤ 512 →
+    length first ≤ mostGates →
+    length second ≤ mostGates →
     1 ≤ n →
-    n + (hGates first + hGates second) ≤ 64 →
-    room first second ≤ 3136
+    n + (hGates first + hGates second) ≤ mostVariables →
+    room first second ≤ places
 room-fits n first second a b c d = omega (arith, tally-bound first, tally-bound second)

@@ -22,3 +22,11 @@ roomFor (two SWAP a b) = 0
 -- over both lists
 abbrev pub room : List Gate → List Gate → ℕ
 room first second = tally roomFor first + tally roomFor second
+
+-- document 01's limit of number 9: n and the H gates of both lists together
+abbrev pub mostVariables : ℕ
+mostVariables = 64
+
+-- document 01's places of a workspace
+abbrev pub places : ℕ
+places = 3136
