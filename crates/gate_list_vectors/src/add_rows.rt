@@ -156,6 +156,21 @@ pub(crate) fn new_gate(u: Tally) -> Tally {
     in_seven(t, b"add: buffer one byte short, 11", 8, 0, 1, 11)
 }
 
+// add on an empty record of two qubits in eight bytes, just enough for a gate.
+pub(crate) fn in_eight(t: Tally) -> Tally {
+    let mut buffer = [0x51u8, 0x43, 0x02, 0x00, 0x00, 0xa5, 0xa5, 0xa5];
+    on(
+        t,
+        b"add: buffer just long enough",
+        &mut buffer,
+        8,
+        0,
+        1,
+        Want::Length(8),
+        b"\x51\x43\x02\x01\x00\x08\x00\x01",
+    )
+}
+
 // Two gates into twelve bytes that begin with an empty record of two qubits, and a third for which there is no room.
 fn three_gates(u: Tally, buffer: &mut [u8]) -> Tally {
     let mut t = u;

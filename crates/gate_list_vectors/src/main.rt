@@ -26,6 +26,7 @@ fn main() {
     t = add_rows::record_first(t);
     t = add_rows::record_gates(t);
     t = add_rows::new_gate(t);
+    t = add_rows::in_eight(t);
     t = add_rows::kept_behind(t);
     t = add_rows::full(t);
     t = inverse_rows::refusals(t);
