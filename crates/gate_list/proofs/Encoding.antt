@@ -14,12 +14,12 @@ use lib.ListN.{length, getD, take, length-append, length-map, length-take, lengt
 use lib.Dec.{ltb, leb, eqb, lit<, lit≤}
 use borrow.Author.Tests.{ltb-false, leb-true, leb-false, eqb-true, eqb-false, not-false, le-ltb, lt-leb, lt-ltb, ne-eqb}
 use Rattle.gate_list.specs.Format.{listMark, headSize, gateSize, mostQubits, mostGates, lastOneQubit, lastKind, noQubit, fromBytes, Bytes}
-use Rattle.gate_list.specs.Gate.{Gate, OneQubit, X, Y, Z, S, S†, T, T†, H, TwoQubit, CX, CZ, SWAP, one, two, Within, AllWithin, oneQubitKinds, twoQubitKinds, Raw, raw, gateOf, oneQubitKind, twoQubitKind, gateBytes, bodyBytes, inverseKind, inverseGate, inverseList}
+use Rattle.gate_list.specs.Gate.{Gate, OneQubit, X, Y, Z, S, S†, T, T†, H, TwoQubit, CX, CZ, SWAP, one, two, Within, AllWithin, oneQubitKinds, twoQubitKinds, Raw, raw, gateOf, oneQubitKind, twoQubitKind, gateBytes, bodyBytes, inverseKind, inverseNumber, inverseGate, inverseList}
 use Rattle.gate_list.specs.Row.{first}
 use Rattle.gate_list.specs.Reading.{size, count, qubits, body, raws, gates, badQubits, marked, headRows, gateRows, allGateRows, recordRows}
 use Rattle.gate_list.specs.Writing.{headBytes, encode}
 use Rattle.gate_list.specs.Promises.{NoneHolds}
-use Rattle.gate_list.specs.Inner.{appended, inverseNumber, inverseBytes}
+use Rattle.gate_list.specs.Inner.{appended, inverseBytes}
 use Rattle.gate_list.proofs.GateLaws.{inverse-cons, length-inverse}
 use Rattle.gate_list.proofs.Rows.{none-holds, none-left, none-right, first-none}
 

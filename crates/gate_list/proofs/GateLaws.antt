@@ -1,10 +1,12 @@
 -- Laws of gates that no byte comes into: inverting twice, and qubits that stay within n. The layers above cite them too.
 -- Assumes nothing.
 use mathlib.Core.Path.{_≡_, refl}
-use Prim.Native.Nat.{ℕ}
+use Prim.Native.Nat.{ℕ, zero, suc, _<_}
 use mathlib.Core.List.{List, [], _∷_, _++_, map, map-append, reverse-cons, reverse-append}
 use lib.ListN.{length, length-map, length-reverse}
-use Rattle.gate_list.specs.Gate.{Gate, X, Y, Z, S, S†, T, T†, H, one, two, Within, AllWithin, inverseKind, inverseGate, inverseList}
+use native.Mathlib.Omega.{arith}
+use borrow.Author.Tests.{ne-eqb, lt-leb}
+use Rattle.gate_list.specs.Gate.{Gate, X, Y, Z, S, S†, T, T†, H, one, two, Within, AllWithin, raw, gateOf, inverseNumber, inverseKind, inverseGate, inverseList}
 
 -- a first gate's inverse comes last
 pub inverse-cons : (g : Gate) (gs : List Gate) → inverseList (g ∷ gs) ≡ inverseList gs ++ inverseGate g ∷ []
@@ -49,3 +51,21 @@ pub within-inverse : (n : ℕ) (gs : List Gate) → AllWithin n gs → AllWithin
 within-inverse n [] h = unfold inverseList in tt
 within-inverse n (g ∷ gs) (here, later) =
     rw inverse-cons (within-append n (inverseList gs) (inverseGate g ∷ []) (within-inverse n gs later) (gate-within-inverse n g here, tt))
+
+-- a gate's bytes with the kind inverted stand for the gate's inverse
+pub inverse-raw : (k a b : ℕ) → gateOf (raw (inverseNumber k) a b) ≡ inverseGate (gateOf (raw k a b))
+unfolding gateOf inverseNumber inverseGate inverseKind
+inverse-raw zero a b = refl
+inverse-raw (suc zero) a b = refl
+inverse-raw (suc (suc zero)) a b = refl
+inverse-raw (suc (suc (suc zero))) a b = refl
+inverse-raw (suc (suc (suc (suc zero)))) a b = refl
+inverse-raw (suc (suc (suc (suc (suc zero))))) a b = refl
+inverse-raw (suc (suc (suc (suc (suc (suc zero)))))) a b = refl
+inverse-raw (suc (suc (suc (suc (suc (suc (suc zero))))))) a b = refl
+inverse-raw (suc (suc (suc (suc (suc (suc (suc (suc k)))))))) a b = two-qubit (suc (suc (suc (suc (suc (suc (suc (suc k)))))))) (omega arith)
+  where
+    two-qubit : (m : ℕ) → 7 < m → gateOf (raw (inverseNumber m) a b) ≡ inverseGate (gateOf (raw m a b))
+    two-qubit m l =
+        unfold gateOf inverseNumber inverseGate in
+        rw (ne-eqb m 3 (omega arith), ne-eqb m 4 (omega arith), ne-eqb m 5 (omega arith), ne-eqb m 6 (omega arith), lt-leb m 7 l)

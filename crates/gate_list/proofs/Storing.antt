@@ -10,7 +10,8 @@ use mathlib.Core.List.{List, [], _∷_, _++_, append-assoc}
 use lib.ListN.{length, getD, take, drop, set, length-take, length-drop, take-append-drop}
 use lib.Seq.{sets-eq, length-take-le, drop-cons, take-append-le, drop-append-add, take-add, take-take, drop-drop, drop-at}
 use Rattle.gate_list.specs.Reading.{size}
-use Rattle.gate_list.specs.Inner.{inverseNumber, inverseBytes}
+use Rattle.gate_list.specs.Gate.{inverseNumber}
+use Rattle.gate_list.specs.Inner.{inverseBytes}
 
 -- three stores in a row put a gate's bytes in
 pub gate-stored : (l : List ℕ) (at k a b : ℕ) → at + 3 ≤ length l

@@ -5,7 +5,7 @@ use Prim.Native.Nat.{ℕ, _-_, _<_}
 use mathlib.Core.Bool.{cond}
 use mathlib.Core.List.{List, [], _∷_, _++_, map, reverse}
 use lib.ListN.{getD}
-use lib.Dec.{leb}
+use lib.Dec.{eqb, leb}
 use Rattle.gate_list.specs.Format.{lastOneQubit, noQubit}
 
 -- the gates on one qubit; † marks an inverse
@@ -91,6 +91,10 @@ inverseKind S† = S
 inverseKind T = T†
 inverseKind T† = T
 inverseKind H = H
+
+-- the number of an inverted kind: 3 and 4, 5 and 6 exchanged
+unfoldable pub inverseNumber : ℕ → ℕ
+inverseNumber k = cond (eqb k 3) 4 (cond (eqb k 4) 3 (cond (eqb k 5) 6 (cond (eqb k 6) 5 k)))
 
 -- a gate's inverse, on the same qubits
 unfoldable pub inverseGate : Gate → Gate

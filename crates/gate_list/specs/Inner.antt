@@ -1,13 +1,11 @@
 -- What the layer's private functions do, for their contracts. No public contract cites anything of this file.
 -- Assumes nothing.
 use Prim.Native.Nat.{ℕ, _+_, _*_}
-use mathlib.Core.Bool.{cond}
 use mathlib.Core.Option.{Option, none, some}
 use mathlib.Core.List.{List, [], _∷_, _++_}
 use lib.ListN.{take, drop}
-use lib.Dec.{eqb}
 use Rattle.gate_list.specs.Format.{headSize, gateSize}
-use Rattle.gate_list.specs.Gate.{Raw}
+use Rattle.gate_list.specs.Gate.{Raw, inverseNumber}
 use Rattle.gate_list.specs.Row.{Fault, first}
 use Rattle.gate_list.specs.Reading.{qubits, count, headRows}
 use Rattle.gate_list.specs.Answer.{Answer, gives, numberOf}
@@ -26,10 +24,6 @@ gatesFault (GatesCheck.Refused r i) = some (record { number = numberOf r; gate =
 -- the bytes that adding writes: the head with one gate more, the old gates' bytes, the new gate's
 abbrev pub appended : ℕ → ℕ → Raw → List ℕ → List ℕ
 appended n g r buffer = headBytes n (g + 1) ++ take (gateSize * g) (drop headSize buffer) ++ r .kind ∷ r .a ∷ r .b ∷ []
-
--- the number of an inverted kind: 3 and 4, 5 and 6 exchanged
-unfoldable pub inverseNumber : ℕ → ℕ
-inverseNumber k = cond (eqb k 3) 4 (cond (eqb k 4) 3 (cond (eqb k 5) 6 (cond (eqb k 6) 5 k)))
 
 -- gate bytes, the gates backwards and each inverted
 unfoldable pub inverseBytes : List ℕ → List ℕ

@@ -4,10 +4,11 @@ ghost use Prim.Native.Nat.{_*_, _≤_};
 ghost use mathlib.Core.List.{_++_};
 ghost use lib.ListN.{length, take, drop};
 ghost use Rattle.gate_list.specs.Format.{headSize, gateSize};
+ghost use Rattle.gate_list.specs.Gate.{inverseNumber};
 ghost use Rattle.gate_list.specs.Reading.{size};
 ghost use Rattle.gate_list.specs.Writing.{inverse};
 ghost use Rattle.gate_list.specs.Answer.{writtenAnswer};
-ghost use Rattle.gate_list.specs.Inner.{inverseNumber, inverseBytes};
+ghost use Rattle.gate_list.specs.Inner.{inverseBytes};
 use crate::Checked;
 use crate::GATE_SIZE;
 use crate::HEAD_SIZE;
@@ -19,7 +20,7 @@ use crate::write_gate;
 use crate::write_head;
 
 // Kinds 3 and 4, 5 and 6 exchanged.
-fn inverse_kind(kind: u8) -> u8
+pub fn inverse_kind(kind: u8) -> u8
     ensures { λ r. ⌜ r ≡ inverseNumber kind ⌝ }
 {
     match kind {

@@ -1,16 +1,14 @@
--- Laws of path sums. In order: worked cases; sets, variables, parities, the phase polynomial and its one canonical form; sums over path
--- variables, and the built sum's amplitude; replacing, taking out and the steps; what every sum on the way keeps.
-pub mod Anchors
-pub mod SetLaws
-pub mod VariableLaws
-pub mod ParityLaws
-pub mod PhaseLaws
-pub mod CanonicalLaws
-pub mod Summing
-pub mod Built
-pub mod Replacing
-pub mod TakingOut
-pub mod StepLaws
-pub mod Wellformed
-pub mod Evenness
-pub mod Roominess
+-- Laws behind the code of the phase-sum layer. In order: terms stored in places; merging in any order; words as sets; tables; loops over
+-- places; passes over the terms; sorting; merging terms in order; wires; counting gates; running gates; accepted records.
+pub mod Storing
+pub mod Merging
+pub mod Words
+pub mod Table
+pub mod Places
+pub mod Passes
+pub mod Sorting
+pub mod Compacting
+pub mod WireLaws
+pub mod Tallying
+pub mod Running
+pub mod Acceptance

@@ -1,2 +1,42 @@
-// Path sums: the phase polynomial and the wires of a gate list, and the single steps of their reduction. Definitions (specs/)
-// and laws (proofs/) alone; no code runs here.
+// The phase-sum layer: path sums with their terms in two lent workspaces, the sets in one and the coefficients in the other, in as many of
+// the first places as the sum counts. Document 01, "Building the sum" and "Reducing it". The definitions that the contracts cite are
+// path_sum's; specs/Workspace.antt says what the workspaces hold.
+//
+// These take any arguments: sets::exclusive_or, sets::union, sets::parity, terms::add, terms::negate, counting::h_gates, counting::t_gates.
+//
+// These have a `requires` and are for the comparison, which meets it: sets::single, sets::holds and all of stepping (variables below 64,
+// and as many places as terms), terms::append, terms::clear, terms::phase_at and canonical::canonical (places), all of building (gates
+// within n, at most 64 variables, and places for the room of the gates).
+pub mod building;
+pub mod canonical;
+pub mod counting;
+pub mod sets;
+pub mod stepping;
+pub mod terms;
+
+// A wire of document 01: the parity of a set of variables, complemented where flipped.
+pub struct Wire {
+    pub set: u64,
+    pub flipped: bool,
+}
+
+// The wires of at most 16 qubits.
+pub struct Wires {
+    pub sets: [u64; 16],
+    pub flips: [bool; 16],
+}
+
+// A phase whose terms stand in the first places of two lent workspaces.
+pub struct Phase {
+    pub constant: u8,
+    pub count: usize,
+}
+
+// The path sum of the gates that have run so far.
+pub struct Sum {
+    pub n: usize,
+    // the next path variable's number
+    pub next: u32,
+    pub wires: Wires,
+    pub phase: Phase,
+}

@@ -1,7 +1,7 @@
 -- `gate_list::inverter::inverse_kind` meets its contract: each arm is the case of `inverseNumber` with the same test.
 -- Assumes nothing.
 use borrow.Author.Tests.{ne-eqb}
-use Rattle.gate_list.specs.Inner.{inverseNumber}
+use Rattle.gate_list.specs.Gate.{inverseNumber}
 use Rattle.gate_list.proofs.inverter.inverse_kind.Statement.{statement}
 use Rattle.gate_list.proofs.inverter.inverse_kind.Tie as tie
 
