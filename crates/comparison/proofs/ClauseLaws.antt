@@ -1,0 +1,335 @@
+-- Laws behind `decide` and `compare`: the built sum of a pair is ready to be pinned, the parts of the comparison chain to its
+-- definition, and the contract's clauses on the answer follow from the demands.
+-- Assumes nothing.
+use mathlib.Core.Path.{_≡_, refl, sym, ap, _∙_}
+use mathlib.Core.Logic.{⊎-map}
+use Prim.Native.Nat.{ℕ, _+_, _-_, _≤_}
+use native.Mathlib.Nat.{sub-zero}
+use native.Mathlib.Omega.{arith}
+use mathlib.Core.Bool.{Bool, true, false, _||_}
+use mathlib.Core.Option.{Option, none, some}
+use mathlib.Core.List.{List, [], _∷_, _++_}
+use lib.ListN.{length, drop, replicate, length-append}
+use lib.Dec.{ltb}
+use borrow.Author.Tests.{ltb-false}
+use Rattle.gate_list.specs.Gate.{Gate, one, two, X, Y, Z, S, S†, T, T†, H, CX, CZ, SWAP, inverseList}
+use Rattle.gate_list.specs.Row.{Fault}
+use Rattle.gate_list.specs.Reading.{accepted, read}
+use Rattle.gate_list.specs.Writing.{gatePart}
+use Rattle.gate_list.proofs.Rows.{none-holds}
+use Rattle.amplitude.specs.Circuit.{tally, isH, hGates}
+use Rattle.amplitude.proofs.Linear.{tally-append, hGates-inverse}
+use Rattle.path_sum.specs.Phase.{minus}
+use Rattle.path_sum.specs.Building.{PathSum, initial, build}
+use Rattle.path_sum.specs.Room.{roomFor, room, mostVariables, places}
+use Rattle.path_sum.proofs.Wellformed.{live-build-from, live-build}
+use Rattle.path_sum.proofs.Roominess.{room-build, tally-inverse-room}
+use Rattle.phase_sum.specs.Workspace.{over, Stored}
+use Rattle.phase_sum.specs.Unmerged.{gatesIn, gateTerms, appendGate, appendGates, appended, Buildable, Shows}
+use Rattle.phase_sum.specs.declared.Sum.{Sum}
+use Rattle.phase_sum.proofs.Storing.{over-padded, stored-held, stored-behind}
+use Rattle.phase_sum.proofs.Acceptance.{gates-of-part, buildable}
+use Rattle.decision.specs.Reduction as reduction
+use Rattle.decision.specs.Reduction.{pinned, reduceEnd}
+use Rattle.decision.specs.Verdict as verdict
+use Rattle.decision.specs.Verdict.{Result, equal, different, undecided, joined, judge, compare}
+use Rattle.decision.specs.Demands.{Accepted, end}
+use Rattle.decision.proofs.Bytes.{demands-pair, room-fits-pair}
+use Rattle.comparison.specs.Call.{Said, says, refuses, numberOf, verdictOf, resultOf, saidOf, pairRows, pairFault, compareRead, unlessFault, comparison, leftBy}
+use Rattle.comparison.specs.Clauses.{Sound, Stops, Clifford, CountsUp}
+use Rattle.comparison.specs.Inner.{members, sumOf, sumBuilt, Sized, Kept, AcceptedOn, numberIn, pairNumber}
+use Rattle.comparison.specs.declared.Verdict.{Verdict}
+use Rattle.comparison.specs.declared.Verdict.the-variants.{Equal, Different, Undecided}
+use Rattle.comparison.specs.declared.Outcome.{Outcome}
+use Rattle.comparison.specs.declared.Refusal.{Refusal}
+use Rattle.comparison.specs.declared.Answer.{Answer}
+use Rattle.comparison.specs.declared.Answer.the-variants.{Compared}
+use Rattle.comparison.specs.declared.State.{State}
+use Rattle.comparison.specs.declared.pair.PairCheck.{PairCheck}
+use Rattle.comparison.specs.declared.pair.PairCheck.the-variants.{Good}
+
+-- a gate's terms are at most its room
+terms-gate : (n : ℕ) (g : Gate) (s : PathSum) → length (gateTerms n g s) ≤ roomFor g
+unfolding gateTerms roomFor
+terms-gate n (one X q) s = omega arith
+terms-gate n (one Y q) s = omega arith
+terms-gate n (one Z q) s = omega arith
+terms-gate n (one S q) s = omega arith
+terms-gate n (one S† q) s = omega arith
+terms-gate n (one T q) s = omega arith
+terms-gate n (one T† q) s = omega arith
+terms-gate n (one H q) s = omega arith
+terms-gate n (two CX a b) s = omega arith
+terms-gate n (two CZ a b) s = omega arith
+terms-gate n (two SWAP a b) s = omega arith
+
+-- gates add at most their room
+terms-gates :
+    (n : ℕ) (gs : List Gate) (s : PathSum) →
+    length (appendGates n gs s .phase .terms) ≤ length (s .phase .terms) + tally roomFor gs
+unfolding appendGates tally
+terms-gates n [] s = omega arith
+terms-gates n (g ∷ gs) s =
+    let more : length (appendGate n g s .phase .terms) ≡ length (s .phase .terms) + length (gateTerms n g s) =
+    unfold appendGate in length-append (s .phase .terms) (gateTerms n g s)
+    in
+    omega (arith, terms-gates n gs (appendGate n g s), terms-gate n g s)
+
+-- the workspaces are kept by two calls together
+pub kept-both : {ss cs ss₁ cs₁ ss₂ cs₂ : List ℕ} → Kept ss cs ss₁ cs₁ → Kept ss₁ cs₁ ss₂ cs₂ → Kept ss cs ss₂ cs₂
+kept-both k l = record { sets = l .sets ∙ k .sets; coeffs = l .coeffs ∙ k .coeffs }
+
+-- the sum that was built of two lists
+module _
+    {n : ℕ} (gs hs : List Gate) {r : Sum} {ss cs ss₁ cs₁ : List ℕ}
+    (shows : Shows (build 0 n (joined gs hs)) n (appended n (joined gs hs)) r ss cs ss₁ cs₁)
+  where
+    -- as many variables left as both lists have H gates
+    built-live : length (build 0 n (joined gs hs) .live) ≡ hGates gs + hGates hs
+    built-live = live-build 0 n (joined gs hs) ∙ tally-append isH gs (inverseList hs) ∙ rw (hGates-inverse hs)
+
+    -- the room of both lists
+    built-room : tally roomFor (joined gs hs) ≡ room gs hs
+    built-room = tally-append roomFor gs (inverseList hs) ∙ rw (tally-inverse-room hs)
+
+    -- it stands for the path sum of both lists
+    built-sum : sumBuilt r ss₁ cs₁ ≡ build 0 n (joined gs hs)
+    built-sum =
+        let live = live-build-from 0 n (joined gs hs) in
+        let many : r .next - r .n ≡ hGates (joined gs hs) =
+        omega (arith, shows .next, shows .qubits, live-build 0 n (joined gs hs))
+        in
+        rw (many, shows .qubits, shows .constant, stored-held (shows .terms), shows .wires, ← live)
+
+    -- it can be begun
+    pub built-begins : n ≤ 16 → n + (hGates gs + hGates hs) ≤ mostVariables → (r .n ≤ 16) × (r .n ≤ r .next) × (r .next ≤ 64)
+    built-begins few variables =
+        (omega (arith, shows .qubits), omega (arith, shows .qubits, shows .next), omega (arith, shows .next, built-live))
+
+    -- with room in the first places, nothing changed behind them
+    pub built-kept : room gs hs ≤ places → Kept ss cs ss₁ cs₁
+    unfolding initial
+    built-kept fits =
+        let terms = room-build 0 n (joined gs hs) in
+        let behind =
+        stored-behind places (shows .terms) (omega (arith, terms-gates n (joined gs hs) (initial 0 n), built-room))
+        (omega (arith, built-room))
+        in
+        record { sets = behind .0; coeffs = behind .1 }
+
+    -- a state that was begun with it
+    module _ (s : State) (same : sumOf s ss₁ cs₁ ≡ sumBuilt r ss₁ cs₁) (qubits : s .n ≡ r .n) (phase : s .phase ≡ r .phase) where
+      -- it has their qubits
+      pub begun-qubits : s .n ≡ n
+      begun-qubits = qubits ∙ shows .qubits
+
+      -- that is its sum
+      pub begun-sum : sumOf s ss₁ cs₁ ≡ build 0 n (joined gs hs)
+      begun-sum = same ∙ built-sum
+
+      -- it is sized
+      pub begun-sized : n ≤ 16 → room gs hs ≤ places → places ≤ length ss₁ → places ≤ length cs₁ → Sized s ss₁ cs₁
+      begun-sized few fits sets coeffs =
+          let count : s .phase .count ≡ length (build 0 n (joined gs hs) .phase .terms) =
+          ap (λ p. p .count) phase ∙ shows .terms .counted
+          in
+          let live : length (members (s .live)) ≡ length (build 0 n (joined gs hs) .live) = ap (λ t. length (t .live)) begun-sum in
+          record {
+            few = omega (arith, begun-qubits);
+            room = omega (arith, count, live, room-build 0 n (joined gs hs), built-room);
+            sets = sets;
+            coeffs = coeffs;
+          }
+
+-- building, pinning, reducing and judging one after the other, each on as many qubits, is the comparison
+pub decided :
+    (n : ℕ) (gs hs : List Gate) {k l m : ℕ} {u : PathSum} {p e : reduction.End} {o : Result} →
+    k ≡ n →
+    u ≡ build 0 n (joined gs hs) →
+    l ≡ k →
+    p ≡ pinned 0 k u →
+    m ≡ l →
+    e ≡ reduceEnd p →
+    o ≡ judge 0 m e →
+    o ≡ compare 0 n gs hs
+unfolding compare
+decided n gs hs on built on′ pins on″ reduces judges = rw (judges, reduces, pins, built, on″, on′, on)
+
+-- where the checks find no number, no row of the table holds
+no-fault : (o : Option Fault) → none ≡ numberIn o → o ≡ none
+no-fault none e = refl
+no-fault (some f) e = let z : _≡_ {A = ℕ} 0 1 = cc in absurd (omega arith)
+
+-- where they find one, the call is refused with it
+number-said : (k : ℕ) (o : Option Fault) (said : Said) → some k ≡ numberIn o → refuses k ≡ unlessFault o said
+number-said k none said e = let z : _≡_ {A = ℕ} 0 1 = cc in absurd (omega arith)
+number-said k (some f) said e = cc
+
+-- where the checks answer a refusal, that is said of the pair
+pub refusal-said :
+    (s t : List ℕ) (w c : ℕ) {k : Refusal} {r : PairCheck} →
+    pairNumber r ≡ numberIn (pairFault (read s) (read t) w c) →
+    r ≡ PairCheck.Refused k →
+    refuses (numberOf k) ≡ comparison s t w c
+refusal-said s t w c {k} number refused =
+    let fault = pairFault (read s) (read t) w c in
+    number-said (numberOf k) fault (compareRead (read s) (read t)) (sym (ap pairNumber refused) ∙ number)
+
+-- a pair that the checks let pass: two accepted records on n qubits with at most 64 variables, and workspaces with all their places
+pub record Passed (s t ss cs : List ℕ) (n : ℕ) : Type 0 where
+  pub gs : List Gate
+  pub hs : List Gate
+  pub pair : Accepted s t n gs hs
+  pub variables : n + (hGates gs + hGates hs) ≤ mostVariables
+  pub sets : places ≤ length ss
+  pub coeffs : places ≤ length cs
+  pub said : comparison s t (length ss) (length cs) ≡ says (compare 0 n gs hs)
+
+-- two conditions of which neither holds
+neither : (a b : Bool) → (a || b) ≡ false → (a ≡ false) × (b ≡ false)
+neither true b e = let z : _≡_ {A = ℕ} 0 1 = cc in absurd (omega arith)
+neither false b e = (refl, e)
+
+-- where the checks answer n, the pair passes
+pub pair-passes :
+    (s t ss cs : List ℕ) {n : ℕ} {r : PairCheck} →
+    pairNumber r ≡ numberIn (pairFault (read s) (read t) (length ss) (length cs)) →
+    ((k : ℕ) → r ≡ Good k → AcceptedOn k s × AcceptedOn k t) →
+    r ≡ Good n →
+    Passed s t ss cs n
+unfolding pairFault compareRead
+pair-passes s t ss cs {n} number qubits good =
+    let ((gs, reads), (hs, reads′)) = qubits n good in
+    let fault = no-fault (pairFault (read s) (read t) (length ss) (length cs)) (sym (ap pairNumber good) ∙ number) in
+    let rows = none-holds (pairRows n n gs hs (length ss) (length cs)) .0 (rw (reads, reads′) at fault) in
+    let sizes = neither (ltb (length ss) places) (ltb (length cs) places) (rows .1 .1 .0) in
+    record {
+      gs = gs;
+      hs = hs;
+      pair = record { reads-first = reads; reads-second = reads′ };
+      variables = ltb-false mostVariables (n + (hGates gs + hGates hs)) (rows .1 .0);
+      sets = ltb-false (length ss) places (sizes .0);
+      coeffs = ltb-false (length cs) places (sizes .1);
+      said = rw (fault, reads, reads′);
+    }
+
+-- the gate parts of a pair that passes
+module _
+    {s t ss cs : List ℕ} {n : ℕ} (pass : Passed s t ss cs n)
+    {part part′ : List ℕ} (is : part ≡ gatePart s (read s)) (is′ : part′ ≡ gatePart t (read t))
+  where
+    -- the first stands for the first list's gates
+    gates-first : gatesIn part ≡ pass .gs
+    gates-first = rw is (gates-of-part s n (pass .gs) (pass .pair .reads-first))
+
+    -- the second for the second's
+    gates-second : gatesIn part′ ≡ pass .hs
+    gates-second = rw is′ (gates-of-part t n (pass .hs) (pass .pair .reads-second))
+
+    -- they can be built, and have room in the first places
+    pub pass-fits : Buildable n part part′ ss cs × (room (gatesIn part) (gatesIn part′) ≤ places)
+    pass-fits =
+        let pair = pass .pair in
+        let built = buildable s t n (pass .gs) (pass .hs) ss cs (pair .reads-first) (pair .reads-second) in (
+          rw (is, is′) (built (pass .variables) (pass .sets) (pass .coeffs)),
+          rw (gates-first, gates-second) (room-fits-pair s t n (pass .gs) (pass .hs) pair (pass .variables)),
+        )
+
+    -- comparing them gives what is said of the pair
+    pub pass-said : {o : Result} → o ≡ compare 0 n (gatesIn part) (gatesIn part′) → says o ≡ comparison s t (length ss) (length cs)
+    pass-said {o} e = ap says (rw (gates-first, gates-second) at e) ∙ sym (pass .said)
+
+-- the enum's case of a verdict
+abbrev caseOf : verdict.Verdict → Verdict
+caseOf equal = Equal
+caseOf different = Different
+caseOf undecided = Undecided
+
+-- an enum's case is that of the verdict that it stands for
+case-back : (v : Verdict) → v ≡ caseOf (verdictOf v)
+case-back Equal = refl
+case-back Different = refl
+case-back Undecided = refl
+
+-- the clauses of an answer that says what the comparison of two records says
+module _ (s t : List ℕ) (w c : ℕ) (a : Answer) (said : saidOf a ≡ comparison s t w c) where
+  -- the outcome of two accepted records is the result for their gates
+  outcome-is :
+      (n : ℕ) (first second : List Gate) (o : Outcome) →
+      Accepted s t n first second →
+      a ≡ Compared o →
+      resultOf o ≡ compare 0 n first second
+  unfolding compareRead
+  outcome-is n first second o pair is =
+      go (resultOf o) (compare 0 n first second) (pairFault (accepted n first) (accepted n second) w c)
+      (rw (pair .reads-first, pair .reads-second) at (sym (ap saidOf is) ∙ said))
+    where
+      go : (x y : Result) (f : Option Fault) → says x ≡ unlessFault f (says y) → x ≡ y
+      go x y none e = cc
+      go x y (some f) e = let z : _≡_ {A = ℕ} 0 1 = cc in absurd (omega arith)
+
+  -- the verdict of such an outcome
+  module _ (n : ℕ) (first second : List Gate) (o : Outcome) (pair : Accepted s t n first second) (is : a ≡ Compared o) where
+    -- it is that of the result
+    verdict-of : verdictOf (o .verdict) ≡ compare 0 n first second .verdict
+    verdict-of = ap (λ r. r .verdict) (outcome-is n first second o pair is)
+
+    -- the result's verdict gives the outcome's
+    verdict-back : (v : verdict.Verdict) → compare 0 n first second .verdict ≡ v → o .verdict ≡ caseOf v
+    verdict-back v h = case-back (o .verdict) ∙ ap caseOf (verdict-of ∙ h)
+
+    -- the outcome's verdict gives the result's
+    verdict-on : (v : Verdict) → o .verdict ≡ v → compare 0 n first second .verdict ≡ verdictOf v
+    verdict-on v h = sym verdict-of ∙ ap verdictOf h
+
+  -- equal and different are said only where that is right
+  sound-said : Sound s t a
+  sound-said n first second o pair is =
+      let demand = demands-pair s t n first second pair in
+      let on = verdict-on n first second o pair is in
+      let same = outcome-is n first second o pair is in (
+        λ h. (minus (end n first second .sum .phase .constant), omega arith, demand .equal-is-right (on Equal h)),
+        λ h. rw (← same) at (demand .different-is-right (on Different h)),
+      )
+
+  -- undecided is said exactly where the steps stop
+  stops-said : Stops s t a
+  stops-said n first second o pair is =
+      let demand = demands-pair s t n first second pair in (
+        demand .reached-by-steps,
+        (
+          λ h. demand .undecided-is-stuck .0 (verdict-on n first second o pair is Undecided h),
+          λ h. verdict-back n first second o pair is undecided (demand .undecided-is-stuck .1 h),
+        ),
+      )
+
+  -- lists without T are decided
+  clifford-said : Clifford s t a
+  clifford-said n first second o pair is none-T =
+      let back = verdict-back n first second o pair is in
+      let decides = demands-pair s t n first second pair .clifford-is-decided none-T in (
+        (λ h. decides .0 .0 (verdict-on n first second o pair is Equal h), λ h. back equal (decides .0 .1 h)),
+        ⊎-map (back equal) (back different) (decides .1),
+      )
+
+  -- the counts add up
+  counts-said : CountsUp s t a
+  counts-said n first second o pair is =
+      rw (← outcome-is n first second o pair is) at (demands-pair s t n first second pair .counts-add-up)
+
+  -- all four clauses
+  pub clauses-said : Sound s t a × (Stops s t a × (Clifford s t a × CountsUp s t a))
+  clauses-said = (sound-said, (stops-said, (clifford-said, counts-said)))
+
+-- zeros over the first m places of a list that is another behind them
+zeros-over : (m : ℕ) (old new : List ℕ) → drop m new ≡ drop m old → over m [] new ≡ replicate m 0 ++ drop m old
+zeros-over m old new e = over-padded m [] new (omega arith) ∙ rw (sub-zero, e)
+
+-- what a comparison leaves that changed nothing behind the first places and then cleared these
+pub cleared :
+    (o : Result) {ss cs ss₁ cs₁ ss₂ cs₂ : List ℕ} →
+    Kept ss cs ss₁ cs₁ →
+    Stored places [] 0 ss₁ cs₁ ss₂ cs₂ →
+    (ss₂ ≡ leftBy (says o) ss) × (cs₂ ≡ leftBy (says o) cs)
+cleared o {ss} {cs} {ss₁} {cs₁} kept stored =
+    (stored .sets ∙ zeros-over places ss ss₁ (kept .sets), stored .coeffs ∙ zeros-over places cs cs₁ (kept .coeffs))

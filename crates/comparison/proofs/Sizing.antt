@@ -1,0 +1,77 @@
+-- States keep to their places: the terms and the variables left together never grow.
+-- Assumes nothing.
+use Prim.Native.Nat.{ℕ, suc, _+_, _≤_}
+use native.Mathlib.Omega.{arith}
+use mathlib.Core.Path.{refl, ap}
+use mathlib.Core.Bool.{Bool, true, false, cond}
+use mathlib.Core.List.{List, [], _∷_}
+use lib.Dec.{eqb}
+use lib.ListN.{length}
+use Rattle.path_sum.specs.Sets.{without, Among, here, there}
+use Rattle.path_sum.specs.Parity.{Parity}
+use Rattle.path_sum.specs.Building.{PathSum}
+use Rattle.path_sum.specs.Stepping.{replace, takeOut, turned}
+use Rattle.path_sum.specs.Room.{places}
+use Rattle.path_sum.proofs.Roominess.{terms-replace, terms-takeOut, terms-turned}
+use borrow.Author.Tests.{eq-eqb}
+use Rattle.comparison.specs.declared.State.{State}
+use Rattle.comparison.specs.Inner.{Sized, Became}
+
+-- the terms of a sum and its variables left, counted together
+abbrev pub roomIn : PathSum → ℕ
+roomIn s = length (s .phase .terms) + length (s .live)
+
+-- a list without a variable is no longer
+without-le : (v : ℕ) (us : List ℕ) → length (without v us) ≤ length us
+unfolding without
+without-le v [] = omega arith
+without-le v (u ∷ us) = go (eqb u v) (without-le v us)
+  where
+    go : (b : Bool) → length (without v us) ≤ length us → length (cond b (without v us) (u ∷ without v us)) ≤ suc (length us)
+    go true later = omega arith
+    go false later = omega arith
+
+-- without one of its variables it is shorter
+without-less : {v : ℕ} {us : List ℕ} → Among v us → suc (length (without v us)) ≤ length us
+unfolding without
+without-less {v} (here {us}) = rw (eq-eqb v v refl) (omega (arith, without-le v us))
+without-less {v} (there {u} {us} a) = go (eqb u v) (without-less a)
+  where
+    go :
+        (b : Bool) →
+        suc (length (without v us)) ≤ length us →
+        suc (length (cond b (without v us) (u ∷ without v us))) ≤ suc (length us)
+    go true later = omega arith
+    go false later = omega arith
+
+-- replacing makes no more of them
+pub room-replace : (z : ℕ) (p : Parity) (s : PathSum) → roomIn (replace z p s) ≤ roomIn s
+unfolding replace
+room-replace z p s = omega (arith, terms-replace z p s, without-le z (s .live))
+
+-- nor does taking a variable out
+pub room-takeOut : (y : ℕ) (s : PathSum) → roomIn (takeOut y s) ≤ roomIn s
+unfolding takeOut
+room-takeOut y s = omega (arith, terms-takeOut y s, without-le y (s .live))
+
+-- a turn adds a term at most and takes out a variable left
+pub room-turned : (k l y : ℕ) (s : PathSum) → Among y (s .live) → roomIn (turned k l (takeOut y s)) ≤ roomIn s
+unfolding takeOut turned
+room-turned k l y s a = omega (arith, terms-turned k l (takeOut y s), terms-takeOut y s, without-less a)
+
+-- a state that stands for a sum with room is sized
+pub sized-next :
+    (t : PathSum) (n : ℕ) (r : State) {ss cs ss′ cs′ : List ℕ} →
+    Became t n r ss cs ss′ cs′ →
+    n ≤ 16 →
+    roomIn t ≤ places →
+    places ≤ length ss′ →
+    places ≤ length cs′ →
+    Sized r ss′ cs′
+sized-next t n r b few room sets coeffs =
+    record {
+      few = omega (arith, b .qubits);
+      room = omega (arith, b .counted, ap (λ (s : PathSum). length (s .live)) (b .sum));
+      sets = sets;
+      coeffs = coeffs;
+    }

@@ -1,0 +1,111 @@
+// The comparison: the checks on the pair, then building, pinning, reducing and the verdict.
+ghost use mathlib.Core.Path.{_≡_};
+ghost use Prim.Native.Nat.{ℕ, _-_, _≤_};
+ghost use mathlib.Core.List.{List};
+ghost use lib.ListN.{length};
+ghost use Rattle.path_sum.specs.Sets.{from};
+ghost use Rattle.path_sum.specs.Room.{room, places};
+ghost use Rattle.phase_sum.specs.Unmerged.{gatesIn, Buildable};
+ghost use Rattle.decision.specs.Reduction.{reduceEnd};
+ghost use Rattle.decision.specs.Verdict.{compare};
+ghost use Rattle.comparison.specs.Call.{resultOf, saidOf, comparison, leftBy};
+ghost use Rattle.comparison.specs.Clauses.{Sound, Stops, Clifford, CountsUp};
+ghost use Rattle.comparison.specs.Inner.{members, sumBuilt, sumOf, endOf, Sized, Kept, Follows, FewSteps};
+use crate::Answer;
+use crate::Counts;
+use crate::End;
+use crate::Outcome;
+use crate::PLACES;
+use crate::State;
+use crate::judging::judge;
+use crate::pair::PairCheck;
+use crate::pair::check_pair;
+use crate::pinning::pin;
+use crate::reducing::reduce;
+use gate_list::reader::gates;
+use phase_sum::Sum;
+use phase_sum::building::build;
+use phase_sum::sets::single;
+use phase_sum::sets::union;
+use phase_sum::terms::clear;
+
+// The variables from n up to next, as a set.
+fn path_variables(n: u32, next: u32) -> u64
+    requires { ⌜ (n ≤ next) × (next ≤ 64) ⌝ }
+    ensures { λ r. ⌜ members r ≡ from n (next - n) ⌝ }
+{
+    let mut set = 0;
+    let mut v = n;
+    while v < next {
+        set = union(set, single(v));
+        v += 1;
+    }
+    set
+}
+
+// A built sum, ready to be pinned: every path variable is left, and no step is taken yet.
+fn begin(sum: Sum) -> State
+    requires { ⌜ (sum .n ≤ 16) × (sum .n ≤ sum .next) × (sum .next ≤ 64) ⌝ }
+    ensures sum { λ r. ⌜ ((ss cs : List ℕ) → sumOf r ss cs ≡ sumBuilt sum ss cs) ⌝ }
+    ensures counts { λ r. ⌜ r .counts ≡ record { pins = 0; sums = 0; turns = 0; joins = 0 } ⌝ }
+    ensures same { λ r. ⌜ (r .n ≡ sum .n) × (r .phase ≡ sum .phase) ⌝ }
+{
+    let wires = sum.wires;
+    let phase = sum.phase;
+    State {
+        n: sum.n,
+        live: path_variables(sum.n as u32, sum.next),
+        wires,
+        phase,
+        counts: Counts {
+            pins: 0,
+            sums: 0,
+            turns: 0,
+            joins: 0,
+        },
+    }
+}
+
+// Reducing what pinning left.
+fn reduce_end(pinned: End, sets: &mut [u64], coeffs: &mut [u8]) -> End
+    requires { ⌜ FewSteps 0 (pinned .state) × Sized (pinned .state) (now sets) (now coeffs) ⌝ }
+    ensures steps { λ r. ⌜ endOf r (now (sets .exit)) (now (coeffs .exit)) ≡ reduceEnd (endOf pinned (now (sets .entry)) (now (coeffs .entry))) ⌝ }
+    ensures follows { λ r. ⌜ Follows (pinned .state) (r .state) (now (sets .entry)) (now (coeffs .entry)) (now (sets .exit)) (now (coeffs .exit)) ⌝ }
+{
+    if pinned.blocked {
+        return pinned;
+    }
+    let state = pinned.state;
+    reduce(state, sets, coeffs)
+}
+
+// The comparison of two lists of gates on n qubits, by their bytes. The workspaces keep what the reduction left in the first places.
+fn decide(n: usize, first: &[u8], second: &[u8], sets: &mut [u64], coeffs: &mut [u8]) -> Outcome
+    requires { ⌜ Buildable n (now first) (now second) (now sets) (now coeffs) × (room (gatesIn (now first)) (gatesIn (now second)) ≤ places) × (places ≤ length (now sets)) × (places ≤ length (now coeffs)) ⌝ }
+    ensures steps { λ r. ⌜ resultOf r ≡ compare 0 n (gatesIn (now (first .entry))) (gatesIn (now (second .entry))) ⌝ }
+    ensures kept { λ _. ⌜ Kept (now (sets .entry)) (now (coeffs .entry)) (now (sets .exit)) (now (coeffs .exit)) ⌝ }
+{
+    let state = begin(build(n, first, second, sets, coeffs));
+    let pinned = pin(state, sets, coeffs);
+    let end = reduce_end(pinned, sets, coeffs);
+    judge(end, sets, coeffs)
+}
+
+// Two lists compared: the verdict with its inputs and counts, or why the pair is turned down.
+pub fn compare(first: &[u8], second: &[u8], sets: &mut [u64], coeffs: &mut [u8]) -> Answer
+    ensures steps { λ r. ⌜ saidOf r ≡ comparison (now (first .entry)) (now (second .entry)) (length (now (sets .entry))) (length (now (coeffs .entry))) ⌝ }
+    ensures kept { λ r. ⌜ (now (sets .exit) ≡ leftBy (saidOf r) (now (sets .entry))) × (now (coeffs .exit) ≡ leftBy (saidOf r) (now (coeffs .entry))) ⌝ }
+    ensures sound { λ r. ⌜ Sound (now (first .entry)) (now (second .entry)) r ⌝ }
+    ensures stops { λ r. ⌜ Stops (now (first .entry)) (now (second .entry)) r ⌝ }
+    ensures clifford { λ r. ⌜ Clifford (now (first .entry)) (now (second .entry)) r ⌝ }
+    ensures counts { λ r. ⌜ CountsUp (now (first .entry)) (now (second .entry)) r ⌝ }
+{
+    match check_pair(first, second, sets.len(), coeffs.len()) {
+        PairCheck::Refused(refusal) => Answer::Refused(refusal),
+        PairCheck::Good(n) => {
+            let outcome = decide(n, gates(first), gates(second), sets, coeffs);
+            clear(sets, coeffs, PLACES);
+            Answer::Compared(outcome)
+        }
+    }
+}

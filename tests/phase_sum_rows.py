@@ -1,0 +1,178 @@
+#!/usr/bin/env python3
+"""Writes the rows of the program phase_sum_vectors and, from the independent implementation beside this file, what it must print.
+
+    python3 tests/phase_sum_rows.py
+
+The files go to crates/phase_sum_vectors/stdin and stdout; the gate runs the program on the one and compares with the other.
+"""
+import os
+import random
+import struct
+
+import reference as ref
+
+LOAD, CANONICAL, REPLACE, TAKE_OUT, ODD_MASK, HALVES, PHASE_AT, PARITY, CLEAR, BUILD, APPEND = range(11)
+
+
+class Rows:
+    """Rows, and the lines that they must give. The terms stand here as a list, in the order of the workspaces."""
+
+    def __init__(self):
+        self.rows = []
+        self.lines = []
+        self.constant = 0
+        self.terms = []
+        self.wires = [[0, 0] for _ in range(16)]
+
+    def row(self, function, variable=0, flipped=0, constant=0, count=0, mask=0, body=b""):
+        self.rows.append(struct.pack("<BBBBHQ", function, variable, flipped, constant, count, mask) + body)
+
+    def shown(self, *numbers):
+        """The row's line, and the wires' line."""
+        terms = [x for term in self.terms for x in term]
+        for line in ([*numbers, self.constant, *terms], [x for wire in self.wires for x in wire]):
+            self.lines.append("".join(f"{x} " for x in line))
+
+    def as_sum(self):
+        """The phase as a sum of the independent implementation, which merges."""
+        s = ref.Sum(16)
+        s.wires = [list(w) for w in self.wires]
+        s.constant = self.constant % 8
+        for mask, c in self.terms:
+            s.put(c, mask, 0)
+        return s
+
+    def taken_from(self, s):
+        self.constant = s.constant
+        self.terms = sorted(s.terms.items())
+        self.wires = [list(w) for w in s.wires] + [[0, 0]] * (16 - len(s.wires))
+
+    def load(self, constant, terms):
+        self.constant, self.terms = constant, list(terms)
+        body = b"".join(struct.pack("<QB", *t) for t in terms)
+        self.row(LOAD, constant=constant, count=len(terms), body=body)
+        self.shown()
+
+    def canonical(self):
+        constant = self.constant
+        self.taken_from(self.as_sum())
+        self.constant = constant
+        self.row(CANONICAL)
+        self.shown()
+
+    def replace(self, z, mask, flipped):
+        s = self.as_sum()
+        s.live = [z]
+        s.replace(z, mask, flipped)
+        self.taken_from(s)
+        self.row(REPLACE, variable=z, flipped=flipped, mask=mask)
+        self.shown()
+
+    def take_out(self, y):
+        s = self.as_sum()
+        s.take_out(y)
+        self.taken_from(s)
+        self.row(TAKE_OUT, variable=y)
+        self.shown()
+
+    def ask(self, v, x):
+        """The mask of odd terms, C and L of v, the phase at x, and the parity of x and v."""
+        held = [(m, c) for m, c in self.terms if m >> v & 1]
+        odd_mask = 0
+        for m, c in self.terms:
+            if c % 2:
+                odd_mask |= m
+        linear = 0
+        for m, c in held:
+            if c // 2 % 2:
+                linear ^= m ^ 1 << v
+        self.row(ODD_MASK)
+        self.shown(odd_mask)
+        self.row(HALVES, variable=v)
+        self.shown(sum(c for _, c in held) // 2 % 4, linear)
+        self.row(PHASE_AT, mask=x)
+        self.shown((self.constant + sum(c for m, c in self.terms if ref.odd(m & x))) % 8)
+        self.row(PARITY, variable=v, mask=x)
+        self.shown(x >> v & 1)
+
+    def append(self, mask, c):
+        self.terms.append((mask, c))
+        self.row(APPEND, constant=c, mask=mask)
+        self.shown()
+
+    def clear(self):
+        self.constant, self.terms = 0, []
+        self.row(CLEAR)
+        self.shown()
+
+    def build(self, n, first, second):
+        records = ref.record(n, first) + ref.record(n, second)
+        s = ref.built(n, first, second)
+        self.taken_from(s)
+        self.row(BUILD, count=len(records), body=records)
+        self.shown(n + len(s.live))
+
+
+def random_terms(rng, count, variables, most=7):
+    return [(rng.getrandbits(variables), rng.randint(0, most)) for _ in range(count)]
+
+
+def random_gates(rng, n, count, hadamards):
+    gates = []
+    for _ in range(count):
+        kind = rng.choice([k for k in range(11) if n > 1 or k <= ref.H])
+        if kind == ref.H:
+            if not hadamards:
+                continue
+            hadamards -= 1
+        a = rng.randrange(n)
+        b = 255 if kind <= ref.H else rng.choice([q for q in range(n) if q != a])
+        gates.append((kind, a, b))
+    return gates
+
+
+def write(path, text):
+    with open(path, "wb") as out:
+        out.write(text)
+
+
+def main():
+    rng = random.Random(5)
+    rows = Rows()
+    for count, variables in ((0, 4), (1, 1), (2, 1), (13, 3), (40, 4), (40, 64), (200, 6), (300, 64)):
+        rows.load(rng.randint(0, 7), random_terms(rng, count, variables))
+        rows.canonical()
+        rows.canonical()
+    rows.load(3, random_terms(rng, 30, 5, 255))
+    rows.canonical()
+    for variables in (3, 6, 20, 64):
+        rows.load(rng.randint(0, 7), random_terms(rng, 25, variables))
+        for _ in range(4):
+            v = rng.randrange(variables)
+            rows.ask(v, rng.getrandbits(variables))
+            rows.replace(v, rng.getrandbits(variables) & ~(1 << v), rng.randint(0, 1))
+            v = rng.randrange(variables)
+            rows.ask(v, rng.getrandbits(64))
+            rows.take_out(v)
+            rows.append(rng.getrandbits(variables), rng.randint(1, 7))
+    for n in (1, 2, 3, 5, 16):
+        for _ in range(4):
+            count = rng.randint(0, 30)
+            rows.build(n, random_gates(rng, n, count, 20), random_gates(rng, n, count, 20))
+            rows.replace(n - 1, rng.getrandbits(n) & ~(1 << n - 1), rng.randint(0, 1))
+    for kind in range(11):
+        for a, b in ((0, 1), (1, 0), (2, 1)):
+            gate = (kind, a, 255 if kind <= ref.H else b)
+            rows.build(3, [(ref.H, 1, 255), (ref.X, 0, 255), gate], [])
+            rows.build(3, [(ref.X, 1, 255)], [gate, (ref.H, 0, 255)])
+    rows.clear()
+    here = os.path.join(os.path.dirname(os.path.abspath(__file__)), "..", "crates", "phase_sum_vectors")
+    data = b"".join(rows.rows)
+    assert len(data) < 65536, len(data)
+    write(os.path.join(here, "stdin"), data)
+    write(os.path.join(here, "stdout"), "".join(line + "\n" for line in rows.lines).encode())
+    print(len(rows.rows), "rows,", len(data), "bytes")
+
+
+if __name__ == "__main__":
+    main()

@@ -1,0 +1,310 @@
+"""An independent implementation of document 01, for tests alone: reading, the steps, and exact dense columns.
+
+It shares no code with the engine and is written for plainness: terms are a dictionary from set to coefficient, and columns are
+dictionaries from output to four whole numbers.
+"""
+
+X, Y, Z, S, SI, T, TI, H, CX, CZ, SWAP = range(11)
+INVERSE = {S: SI, SI: S, T: TI, TI: T}
+VERDICTS = ("equal", "different", "undecided")
+
+
+class Refused(Exception):
+    """A call turned down, by number."""
+
+    def __init__(self, number):
+        super().__init__(number)
+        self.number = number
+
+
+def read_record(data):
+    """(n, gates, length) of the record at the start of data; raises Refused."""
+    if len(data) < 5:
+        raise Refused(1)
+    if data[0] != 0x51 or data[1] != 0x43:
+        raise Refused(2)
+    n = data[2]
+    if not 1 <= n <= 16:
+        raise Refused(3)
+    g = data[3] | data[4] << 8
+    if g > 512:
+        raise Refused(4)
+    if len(data) < 5 + 3 * g:
+        raise Refused(1)
+    gates = []
+    for i in range(g):
+        kind, a, b = data[5 + 3 * i : 8 + 3 * i]
+        if kind > SWAP:
+            raise Refused(5)
+        if kind <= H and b != 255:
+            raise Refused(7)
+        if a >= n or (kind > H and (b >= n or a == b)):
+            raise Refused(6)
+        gates.append((kind, a, b))
+    return n, gates, 5 + 3 * g
+
+
+def record(n, gates):
+    """The bytes of a record."""
+    body = b"".join(bytes(g) for g in gates)
+    return bytes([0x51, 0x43, n, len(gates) & 255, len(gates) >> 8]) + body
+
+
+def inverted(gates):
+    """The gates backwards, S and T exchanged for their inverses."""
+    return [(INVERSE.get(k, k), a, b) for k, a, b in reversed(gates)]
+
+
+def odd(mask):
+    """The parity of a number's ones."""
+    return bin(mask).count("1") % 2
+
+
+class Sum:
+    """A path sum: wires as [set, bit], a constant, terms by set, and the live path variables."""
+
+    def __init__(self, n):
+        self.n = n
+        self.wires = [[1 << q, 0] for q in range(n)]
+        self.constant = 0
+        self.terms = {}
+        self.live = []
+
+    def put(self, coefficient, mask, bit):
+        """A phase on a parity."""
+        if bit:
+            self.constant = (self.constant + coefficient) % 8
+            coefficient = -coefficient
+        if mask:
+            c = (self.terms.get(mask, 0) + coefficient) % 8
+            if c:
+                self.terms[mask] = c
+            else:
+                self.terms.pop(mask, None)
+
+    def product(self, u, v):
+        """4 on a product of parities."""
+        self.put(2, *u)
+        self.put(2, *v)
+        self.put(-2, u[0] ^ v[0], u[1] ^ v[1])
+
+    def run(self, gate):
+        kind, a, b = gate
+        w = self.wires
+        if kind == X:
+            w[a] = [w[a][0], 1 - w[a][1]]
+        elif kind == Y:
+            self.put(4, *w[a])
+            w[a] = [w[a][0], 1 - w[a][1]]
+            self.constant = (self.constant + 2) % 8
+        elif kind == CX:
+            w[b] = [w[b][0] ^ w[a][0], w[b][1] ^ w[a][1]]
+        elif kind == SWAP:
+            w[a], w[b] = w[b], w[a]
+        elif kind == CZ:
+            self.product(w[a], w[b])
+        elif kind == H:
+            v = self.n + len(self.live)
+            self.live.append(v)
+            self.product(w[a], (1 << v, 0))
+            w[a] = [1 << v, 0]
+        else:
+            self.put({Z: 4, S: 2, SI: -2, T: 1, TI: -1}[kind], *w[a])
+
+    def replace(self, z, mask, bit):
+        """Variable z replaced by a parity, in terms and wires."""
+        old, self.terms = self.terms, {}
+        for s, c in old.items():
+            if s >> z & 1:
+                self.put(c, s ^ 1 << z ^ mask, bit)
+            else:
+                self.put(c, s, 0)
+        for w in self.wires:
+            if w[0] >> z & 1:
+                w[0] ^= 1 << z ^ mask
+                w[1] ^= bit
+        self.live.remove(z)
+
+    def ready(self, y):
+        return all(c % 2 == 0 for s, c in self.terms.items() if s >> y & 1)
+
+    def halves(self, y):
+        """C and L of y."""
+        total, linear = 0, 0
+        for s, c in self.terms.items():
+            if s >> y & 1:
+                total += c
+                if c // 2 % 2:
+                    linear ^= s ^ 1 << y
+        return total // 2 % 4, linear
+
+    def take_out(self, y):
+        old, self.terms = self.terms, {}
+        for s, c in old.items():
+            self.put(c, s & ~(1 << y), 0)
+
+    def phase(self, x):
+        return (self.constant + sum(c for s, c in self.terms.items() if odd(s & x))) % 8
+
+
+def inputs_by_weight(n):
+    for weight in (1, 2, 3):
+        for x in range(1 << n):
+            if bin(x).count("1") == weight:
+                yield x
+
+
+def built(n, first, second):
+    """The sum of the first list and the second inverted."""
+    s = Sum(n)
+    for gate in first + inverted(second):
+        s.run(gate)
+    return s
+
+
+def compare(n, first, second):
+    """The eight fields of the result."""
+    s = built(n, first, second)
+    pins = sums = turns = joins = 0
+
+    def result(verdict, a, b):
+        return (verdict, a, b, pins, sums, turns, joins, len(s.live))
+
+    def blocked(mask, bit):
+        shown = 0 if bit else mask & -mask
+        return result("different", shown, shown)
+
+    def lowest(mask):
+        held = [v for v in s.live if mask >> v & 1]
+        return min(held) if held else None
+
+    for q in range(n):
+        mask, bit = s.wires[q][0] ^ 1 << q, s.wires[q][1]
+        z = lowest(mask)
+        if z is not None:
+            s.replace(z, mask ^ 1 << z, bit)
+            pins += 1
+        elif mask or bit:
+            return blocked(mask, bit)
+    while s.live:
+        candidates = [y for y in s.live if s.ready(y)]
+        if not candidates:
+            return result("undecided", 0, 0)
+        y = min(candidates)
+        c, linear = s.halves(y)
+        z = lowest(linear)
+        if c % 2 == 0 and (c or linear) and z is None:
+            return blocked(linear, c // 2)
+        s.take_out(y)
+        s.live.remove(y)
+        if c % 2:
+            turn = 1 if c == 1 else -1
+            s.constant = (s.constant + turn) % 8
+            s.put(-2 * turn, linear, 0)
+            turns += 1
+        elif c or linear:
+            s.replace(z, linear ^ 1 << z, c // 2)
+            joins += 1
+        else:
+            sums += 1
+    if pins != sums:
+        return result("different", 0, 0)
+    for x in inputs_by_weight(n):
+        if s.phase(x) != s.phase(0):
+            return result("different", 0, x)
+    return result("equal", 0, 0)
+
+
+def run_program(data):
+    """The line that the program prints for these bytes of input."""
+    try:
+        n, first, length = read_record(data)
+        m, second, more = read_record(data[length:])
+        if len(data) > length + more:
+            raise Refused(12)
+        check_pair(n, first, m, second)
+    except Refused as refusal:
+        return f"refused {refusal.number}"
+    return " ".join(map(str, compare(n, first, second)))
+
+
+def check_pair(n, first, m, second):
+    if n != m:
+        raise Refused(8)
+    if n + sum(k == H for k, _, _ in first + second) > 64:
+        raise Refused(9)
+
+
+# Exact amplitudes: a + bω + cω² + dω³ as (a, b, c, d).
+
+
+def times_omega(z, k=1):
+    for _ in range(k % 8):
+        z = (-z[3], z[0], z[1], z[2])
+    return z
+
+
+def times_root_two(z, k):
+    for _ in range(k):
+        a, b, c, d = z
+        z = (b - d, a + c, b + d, c - a)
+    return z
+
+
+def plus(u, v):
+    return tuple(p + q for p, q in zip(u, v))
+
+
+def column(gates, v):
+    """The amplitudes from input v, H without its factor."""
+    state = {v: (1, 0, 0, 0)}
+    for kind, a, b in gates:
+        after = {}
+
+        def add(w, z):
+            after[w] = plus(after.get(w, (0, 0, 0, 0)), z)
+
+        for w, z in state.items():
+            one = w >> a & 1
+            if kind == X:
+                add(w ^ 1 << a, z)
+            elif kind == Y:
+                add(w ^ 1 << a, times_omega(z, 6 if one else 2))
+            elif kind == H:
+                add(w & ~(1 << a), z)
+                add(w | 1 << a, times_omega(z, 4) if one else z)
+            elif kind == CX:
+                add(w ^ (one << b), z)
+            elif kind == CZ:
+                add(w, times_omega(z, 4) if one and w >> b & 1 else z)
+            elif kind == SWAP:
+                other = w >> b & 1
+                add(w & ~(1 << a) & ~(1 << b) | other << a | one << b, z)
+            else:
+                add(w, times_omega(z, {Z: 4, S: 2, SI: 6, T: 1, TI: 7}[kind]) if one else z)
+        state = {w: z for w, z in after.items() if any(z)}
+    return state
+
+
+class Columns:
+    """Which powers of ω carry the first list's columns to the second's."""
+
+    def __init__(self, first, second):
+        self.first, self.second = first, second
+        self.h1 = sum(k == H for k, _, _ in first)
+        self.h2 = sum(k == H for k, _, _ in second)
+
+    def fitting(self, v):
+        """The powers that fit column v."""
+        left = {w: times_root_two(z, self.h2) for w, z in column(self.first, v).items()}
+        right = {w: times_root_two(z, self.h1) for w, z in column(self.second, v).items()}
+        return {j for j in range(8) if {w: times_omega(z, j) for w, z in left.items()} == right}
+
+    def carry(self, n):
+        """The powers that carry every column."""
+        powers = set(range(8))
+        for v in range(1 << n):
+            powers &= self.fitting(v)
+            if not powers:
+                break
+        return powers
