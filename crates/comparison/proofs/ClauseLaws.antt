@@ -3,16 +3,16 @@
 -- Assumes nothing.
 use mathlib.Core.Path.{_≡_, refl, sym, ap, _∙_}
 use mathlib.Core.Logic.{⊎-map}
-use Prim.Native.Nat.{ℕ, _+_, _-_, _≤_}
+use Prim.Native.Nat.{ℕ, _+_, _≤_}
 use native.Mathlib.Nat.{sub-zero}
 use native.Mathlib.Omega.{arith}
 use mathlib.Core.Bool.{Bool, true, false, _||_}
 use mathlib.Core.Option.{Option, none, some}
-use mathlib.Core.List.{List, [], _∷_, _++_}
-use lib.ListN.{length, drop, replicate, length-append}
+use mathlib.Core.List.{List, [], _++_}
+use lib.ListN.{length, drop, replicate}
 use lib.Dec.{ltb}
 use borrow.Author.Tests.{ltb-false}
-use Rattle.gate_list.specs.Gate.{Gate, one, two, X, Y, Z, S, S†, T, T†, H, CX, CZ, SWAP, inverseList}
+use Rattle.gate_list.specs.Gate.{Gate, inverseList}
 use Rattle.gate_list.specs.Row.{Fault}
 use Rattle.gate_list.specs.Reading.{accepted, read}
 use Rattle.gate_list.specs.Writing.{gatePart}
@@ -25,9 +25,9 @@ use Rattle.path_sum.specs.Room.{roomFor, room, mostVariables, places}
 use Rattle.path_sum.proofs.Wellformed.{live-build-from, live-build}
 use Rattle.path_sum.proofs.Roominess.{room-build, tally-inverse-room}
 use Rattle.phase_sum.specs.Workspace.{over, Stored}
-use Rattle.phase_sum.specs.Unmerged.{gatesIn, gateTerms, appendGate, appendGates, appended, Buildable, Shows}
+use Rattle.phase_sum.specs.Unmerged.{gatesIn, appended, Buildable, Shows}
 use Rattle.phase_sum.specs.declared.Sum.{Sum}
-use Rattle.phase_sum.proofs.Storing.{over-padded, stored-held, stored-behind}
+use Rattle.phase_sum.proofs.Storing.{over-padded, stored-behind}
 use Rattle.phase_sum.proofs.Acceptance.{gates-of-part, buildable}
 use Rattle.decision.specs.Reduction as reduction
 use Rattle.decision.specs.Reduction.{pinned, reduceEnd}
@@ -47,37 +47,7 @@ use Rattle.comparison.specs.declared.Answer.the-variants.{Compared}
 use Rattle.comparison.specs.declared.State.{State}
 use Rattle.comparison.specs.declared.pair.PairCheck.{PairCheck}
 use Rattle.comparison.specs.declared.pair.PairCheck.the-variants.{Good}
-
--- a gate's terms are at most its room
-terms-gate : (n : ℕ) (g : Gate) (s : PathSum) → length (gateTerms n g s) ≤ roomFor g
-unfolding gateTerms roomFor
-terms-gate n (one X q) s = omega arith
-terms-gate n (one Y q) s = omega arith
-terms-gate n (one Z q) s = omega arith
-terms-gate n (one S q) s = omega arith
-terms-gate n (one S† q) s = omega arith
-terms-gate n (one T q) s = omega arith
-terms-gate n (one T† q) s = omega arith
-terms-gate n (one H q) s = omega arith
-terms-gate n (two CX a b) s = omega arith
-terms-gate n (two CZ a b) s = omega arith
-terms-gate n (two SWAP a b) s = omega arith
-
--- gates add at most their room
-terms-gates :
-    (n : ℕ) (gs : List Gate) (s : PathSum) →
-    length (appendGates n gs s .phase .terms) ≤ length (s .phase .terms) + tally roomFor gs
-unfolding appendGates tally
-terms-gates n [] s = omega arith
-terms-gates n (g ∷ gs) s =
-    let more : length (appendGate n g s .phase .terms) ≡ length (s .phase .terms) + length (gateTerms n g s) =
-    unfold appendGate in length-append (s .phase .terms) (gateTerms n g s)
-    in
-    omega (arith, terms-gates n gs (appendGate n g s), terms-gate n g s)
-
--- the workspaces are kept by two calls together
-pub kept-both : {ss cs ss₁ cs₁ ss₂ cs₂ : List ℕ} → Kept ss cs ss₁ cs₁ → Kept ss₁ cs₁ ss₂ cs₂ → Kept ss cs ss₂ cs₂
-kept-both k l = record { sets = l .sets ∙ k .sets; coeffs = l .coeffs ∙ k .coeffs }
+use Rattle.phase_sum.proofs.Running.{terms-gates, shows-sum}
 
 -- the sum that was built of two lists
 module _
@@ -94,12 +64,7 @@ module _
 
     -- it stands for the path sum of both lists
     built-sum : sumBuilt r ss₁ cs₁ ≡ build 0 n (joined gs hs)
-    built-sum =
-        let live = live-build-from 0 n (joined gs hs) in
-        let many : r .next - r .n ≡ hGates (joined gs hs) =
-        omega (arith, shows .next, shows .qubits, live-build 0 n (joined gs hs))
-        in
-        rw (many, shows .qubits, shows .constant, stored-held (shows .terms), shows .wires, ← live)
+    built-sum = shows-sum shows (hGates (joined gs hs)) (live-build-from 0 n (joined gs hs))
 
     -- it can be begun
     pub built-begins : n ≤ 16 → n + (hGates gs + hGates hs) ≤ mostVariables → (r .n ≤ 16) × (r .n ≤ r .next) × (r .next ≤ 64)
@@ -112,7 +77,7 @@ module _
     built-kept fits =
         let terms = room-build 0 n (joined gs hs) in
         let behind =
-        stored-behind places (shows .terms) (omega (arith, terms-gates n (joined gs hs) (initial 0 n), built-room))
+        stored-behind places (shows .terms) (omega (arith, terms-gates n (joined gs hs) (initial 0 n) .1, built-room))
         (omega (arith, built-room))
         in
         record { sets = behind .0; coeffs = behind .1 }

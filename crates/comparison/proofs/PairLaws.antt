@@ -13,7 +13,7 @@ use borrow.Author.Tests.{lt-ltb, le-ltb, eq-eqb, ne-eqb}
 use Rattle.gate_list.specs.Gate.{Gate, one, two, oneQubitKind}
 use Rattle.gate_list.specs.Row.{Fault, first}
 use Rattle.gate_list.specs.Reading.{Reading, accepted, refused, read}
-use Rattle.gate_list.specs.Answer.{gives, refuses, numberOf, checkedAnswer}
+use Rattle.gate_list.specs.Answer.{refuses, numberOf, checkedAnswer}
 use Rattle.gate_list.specs.Writing.{checkAnswer, gatePart}
 use Rattle.gate_list.specs.declared.Refusal as list
 use Rattle.gate_list.specs.declared.Checked.{Checked}
@@ -23,7 +23,7 @@ use Rattle.amplitude.specs.Circuit.{tally, isH, hGates}
 use Rattle.amplitude.proofs.BitLaws.{digit-below}
 use Rattle.path_sum.specs.Room.{mostVariables, places}
 use Rattle.phase_sum.specs.Unmerged.{gatesIn}
-use Rattle.phase_sum.proofs.Acceptance.{gates-of-part}
+use Rattle.phase_sum.proofs.Acceptance.{gates-of-part, accepted-by-check}
 use Rattle.comparison.specs.Call.{pairFault}
 use Rattle.comparison.specs.Inner.{AcceptedOn, numberIn}
 use Rattle.comparison.specs.declared.Refusal.{Refusal}
@@ -33,11 +33,7 @@ use Rattle.comparison.specs.declared.pair.PairCheck.the-variants.{Good}
 -- a check that answered n and g accepts the record, on n qubits
 pub accepted-on :
     (s : List ℕ) (found : Checked) (n g : ℕ) → checkedAnswer found ≡ checkAnswer (read s) → found ≡ Accepted n g → AcceptedOn n s
-accepted-on s found n g answers is = go (read s) refl (rw is at answers)
-  where
-    go : (r : Reading) → read s ≡ r → gives (n ∷ g ∷ []) ≡ checkAnswer r → AcceptedOn n s
-    go (accepted m gs) e h = (gs, cc)
-    go (refused f) e h = let z : _≡_ {A = ℕ} 0 1 = cc in absurd (omega arith)
+accepted-on s found n g answers is = accepted-by-check s n g (rw is at answers)
 
 -- a check that answered a refusal refuses the record, by a fault of that number
 pub refused-by :

@@ -27,7 +27,7 @@ use Rattle.comparison.specs.declared.Counts.{Counts}
 use Rattle.comparison.specs.declared.State.{State}
 use Rattle.comparison.specs.declared.End.{End}
 use Rattle.comparison.proofs.Members.{member-held}
-use Rattle.comparison.proofs.Sizing.{roomIn, room-replace, sized-next}
+use Rattle.comparison.proofs.Sizing.{roomIn, room-replace, sized-next, follows-itself, follows-on}
 
 -- a wire with input q added
 pub with-input :
@@ -73,10 +73,6 @@ pub record PinnedQubit (q : ℕ) (s : State) (e : End) (ss cs ss′ cs′ : List
 -- the counts with one pin more
 abbrev onePin : Counts → Counts
 onePin c = record { pins = c .pins + 1; sums = c .sums; turns = c .turns; joins = c .joins }
-
--- a sized state follows itself
-self-follows : (s : State) {ss cs : List ℕ} → Sized s ss cs → Follows s s ss cs ss cs
-self-follows s z = record { qubits = refl; sized = z; kept = record { sets = refl; coeffs = refl } }
 
 -- the sum of a sized state has room
 sized-room : (s : State) {ss cs : List ℕ} → Sized s ss cs → roomIn (sumOf s ss cs) ≤ places
@@ -136,7 +132,7 @@ pub pinned-free :
 pinned-free q w b s {ss} {cs} few sized is e b-is =
     record {
       steps = λ m. pin-free m q (parityOf w) (sumOf s ss cs) (countsOf s) b is e (sym b-is);
-      follows = self-follows s sized;
+      follows = follows-itself s sized;
       pins = omega arith;
       others = λ f. f;
     }
@@ -171,22 +167,9 @@ none-pinned s w e sized =
       within = omega arith;
       free = refl;
       left = rw (whole, e);
-      follows = self-follows s sized;
+      follows = follows-itself s sized;
       pins = rw e (omega arith);
       steps = none-taken;
-    }
-
--- a state that follows one that follows another follows that too
-follows-on :
-    {s t r : State} {ss cs ss₁ cs₁ ss₂ cs₂ : List ℕ} →
-    Follows s t ss cs ss₁ cs₁ →
-    Follows t r ss₁ cs₁ ss₂ cs₂ →
-    Follows s r ss cs ss₂ cs₂
-follows-on f g =
-    record {
-      qubits = g .qubits ∙ f .qubits;
-      sized = g .sized;
-      kept = record { sets = g .kept .sets ∙ f .kept .sets; coeffs = g .kept .coeffs ∙ f .kept .coeffs };
     }
 
 module _

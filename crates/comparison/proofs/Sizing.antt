@@ -2,7 +2,7 @@
 -- Assumes nothing.
 use Prim.Native.Nat.{ℕ, suc, _+_, _≤_}
 use native.Mathlib.Omega.{arith}
-use mathlib.Core.Path.{refl, ap}
+use mathlib.Core.Path.{refl, ap, _∙_}
 use mathlib.Core.Bool.{Bool, true, false, cond}
 use mathlib.Core.List.{List, [], _∷_}
 use lib.Dec.{eqb}
@@ -15,7 +15,7 @@ use Rattle.path_sum.specs.Room.{places}
 use Rattle.path_sum.proofs.Roominess.{terms-replace, terms-takeOut, terms-turned}
 use borrow.Author.Tests.{eq-eqb}
 use Rattle.comparison.specs.declared.State.{State}
-use Rattle.comparison.specs.Inner.{Sized, Became}
+use Rattle.comparison.specs.Inner.{Sized, Became, Kept, Follows}
 
 -- the terms of a sum and its variables left, counted together
 abbrev pub roomIn : PathSum → ℕ
@@ -75,3 +75,19 @@ sized-next t n r b few room sets coeffs =
       sets = sets;
       coeffs = coeffs;
     }
+
+-- what two calls leave behind the first places
+pub kept-both : {ss cs ss₁ cs₁ ss₂ cs₂ : List ℕ} → Kept ss cs ss₁ cs₁ → Kept ss₁ cs₁ ss₂ cs₂ → Kept ss cs ss₂ cs₂
+kept-both k l = record { sets = l .sets ∙ k .sets; coeffs = l .coeffs ∙ k .coeffs }
+
+-- a sized state follows itself
+pub follows-itself : (s : State) {ss cs : List ℕ} → Sized s ss cs → Follows s s ss cs ss cs
+follows-itself s z = record { qubits = refl; sized = z; kept = record { sets = refl; coeffs = refl } }
+
+-- what follows a state that follows another follows that one
+pub follows-on :
+    {s t r : State} {ss cs ss₁ cs₁ ss₂ cs₂ : List ℕ} →
+    Follows s t ss cs ss₁ cs₁ →
+    Follows t r ss₁ cs₁ ss₂ cs₂ →
+    Follows s r ss cs ss₂ cs₂
+follows-on f g = record { qubits = g .qubits ∙ f .qubits; sized = g .sized; kept = kept-both (f .kept) (g .kept) }

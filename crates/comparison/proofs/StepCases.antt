@@ -55,7 +55,7 @@ use Rattle.comparison.specs.Inner.{
   Stays,
 }
 use Rattle.comparison.proofs.Members.{member-held, members-hold, members-without, length-members}
-use Rattle.comparison.proofs.Sizing.{roomIn, sized-next}
+use Rattle.comparison.proofs.Sizing.{roomIn, sized-next, follows-itself, follows-on}
 
 -- tests that agree find the same number
 firstSuch-same : (f g : ℕ → Bool) → ((v : ℕ) → f v ≡ g v) → (vs : List ℕ) → firstSuch f vs ≡ firstSuch g vs
@@ -112,10 +112,6 @@ follows-change s r t k z room b ls lc =
       sized = record { few = next .few; room = next .room; sets = next .sets; coeffs = next .coeffs };
       kept = b .kept;
     }
-
--- a sized state follows itself
-pub follows-itself : (s : State) {ss cs : List ℕ} → Sized s ss cs → Follows s s ss cs ss cs
-follows-itself s z = record { qubits = refl; sized = z; kept = record { sets = refl; coeffs = refl } }
 
 -- what a ready variable that is a sum gives
 step-sum :
@@ -277,19 +273,6 @@ reduce-stuck :
 unfolding reduceFrom
 reduce-stuck m y s q c e h = rw (e, reduceFrom, ← h)
 
--- what follows a state that follows another follows that one
-follows-on :
-    (s r t : State) {ss cs ss′ cs′ ss″ cs″ : List ℕ} →
-    Follows s r ss cs ss′ cs′ →
-    Follows r t ss′ cs′ ss″ cs″ →
-    Follows s t ss cs ss″ cs″
-follows-on s r t f g =
-    record {
-      qubits = g .qubits ∙ f .qubits;
-      sized = g .sized;
-      kept = record { sets = g .kept .sets ∙ f .kept .sets; coeffs = g .kept .coeffs ∙ f .kept .coeffs };
-    }
-
 -- the first ready variable of a state
 abbrev pub readyIn : State → List ℕ → List ℕ → Option ℕ
 readyIn s ss cs = firstReady (members (s .live)) (held (s .phase .count) ss cs)
@@ -405,7 +388,7 @@ module _
             record {
               later = going .later ∙ rw (← split) at now;
               free = free;
-              follows = follows-on (first .state) (e .state) (f .state) (going .follows) follows;
+              follows = follows-on (going .follows) follows;
               few = omega (arith, one, going .few, going .within);
               within = omega (arith, going .within);
               most = going .most;
@@ -430,4 +413,4 @@ module _
             start
             word
             (rw (blocked, same .0, same .1, same .2) (sym (going .later ∙ rw (← split) at now)))
-            (follows-on (first .state) (e .state) (f .state) (going .follows) follows)
+            (follows-on (going .follows) follows)

@@ -4,12 +4,13 @@ use mathlib.Core.Path.{_≡_, refl}
 use Prim.Native.Nat.{ℕ, _+_, _%_, _≤_}
 use native.Mathlib.Omega.{arith}
 use mathlib.Core.Option.{Option, none, some}
-use mathlib.Core.List.{List}
+use mathlib.Core.List.{List, [], _∷_}
 use lib.ListN.{length, length-take, length-drop}
 use Rattle.gate_list.specs.Gate.{Gate}
 use Rattle.gate_list.specs.Row.{Fault, first}
-use Rattle.gate_list.specs.Reading.{qubits, gates, recordRows, accepted, unless, read}
-use Rattle.gate_list.specs.Writing.{gatePart}
+use Rattle.gate_list.specs.Reading.{Reading, qubits, gates, recordRows, accepted, refused, unless, read}
+use Rattle.gate_list.specs.Answer.{gives}
+use Rattle.gate_list.specs.Writing.{checkAnswer, gatePart}
 use Rattle.gate_list.proofs.Encoding.{good-head}
 use Rattle.gate_list.proofs.Theorems.{accepted-is-sound}
 use Rattle.amplitude.specs.Circuit.{hGates}
@@ -25,6 +26,15 @@ passed s n gs = go (first (recordRows s))
     go : (o : Option Fault) → unless o (accepted (qubits s) (gates s)) ≡ accepted n gs → (o ≡ none) × (gates s ≡ gs)
     go none e = (refl, cc)
     go (some f) e = let z : _≡_ {A = ℕ} 0 1 = cc in absurd (omega arith)
+
+-- a record that check answers with n and g is accepted on n qubits
+pub accepted-by-check :
+    (s : List ℕ) (n g : ℕ) → gives (n ∷ g ∷ []) ≡ checkAnswer (read s) → (gs : List Gate) × (read s ≡ accepted n gs)
+accepted-by-check s n g = go (read s)
+  where
+    go : (r : Reading) → gives (n ∷ g ∷ []) ≡ checkAnswer r → (gs : List Gate) × (r ≡ accepted n gs)
+    go (accepted m gs) e = (gs, cc)
+    go (refused f) e = let z : _≡_ {A = ℕ} 0 1 = cc in absurd (omega arith)
 
 -- the gates that a record's gate part stands for are those that reading it found
 pub gates-of-part : (s : List ℕ) (n : ℕ) (gs : List Gate) → read s ≡ accepted n gs → gatesIn (gatePart s (read s)) ≡ gs

@@ -3,8 +3,6 @@
 -- Assumes nothing.
 use mathlib.Core.Path.{_≡_, refl, sym, ap, _∙_}
 use Prim.Native.Nat.{ℕ, zero, suc, _+_, _-_, _%_, _≤_, _<_}
-use native.Mathlib.Nat.{add-zero, add-assoc}
-use native.Mathlib.Numerals.{add-one}
 use native.Mathlib.Omega.{arith}
 use mathlib.Core.Bool.{Bool, true, false, cond}
 use mathlib.Core.List.{List, [], _∷_, _++_, append-nil, map-append, reverse-append}
@@ -12,7 +10,7 @@ use lib.ListN.{length, getD, set, take, drop, length-append, length-take, length
 use lib.Seq.{take-add}
 use lib.Dec.{leb}
 use borrow.Author.Tests.{leb-true, lt-leb}
-use Rattle.gate_list.specs.Gate.{Gate, OneQubit, TwoQubit, one, two, X, Y, Z, S, S†, T, T†, H, CX, CZ, SWAP, Within, AllWithin, oneQubitKinds, twoQubitKinds, oneQubitKind, raw, gateOf, inverseNumber, inverseList}
+use Rattle.gate_list.specs.Gate.{Gate, OneQubit, TwoQubit, one, two, X, Y, Z, S, S†, T, T†, H, CX, CZ, SWAP, Within, AllWithin, oneQubitKinds, twoQubitKinds, raw, gateOf, inverseNumber, inverseList}
 use Rattle.gate_list.specs.Reading.{raws}
 use Rattle.gate_list.proofs.GateLaws.{inverse-raw, within-append, within-inverse}
 use Rattle.gate_list.proofs.Storing.{three-at}
@@ -31,10 +29,11 @@ use Rattle.phase_sum.specs.declared.Wire.{Wire}
 use Rattle.phase_sum.specs.declared.Wires.{Wires}
 use Rattle.phase_sum.specs.declared.Sum.{Sum}
 use Rattle.phase_sum.proofs.Storing.{length-held, over-grown, stored-same, stored-held, stored-grown, stored-again}
-use Rattle.phase_sum.proofs.Merging.{merged-build}
+use Rattle.phase_sum.proofs.Merging.{merged-build, merged-gates, mergedSum}
 use Rattle.path_sum.proofs.PhaseLaws.{length-rebuild}
 use Rattle.path_sum.proofs.Roominess.{tally-inverse-room}
-use Rattle.path_sum.proofs.VariableLaws.{from-length, from-snoc}
+use Rattle.path_sum.proofs.VariableLaws.{from-length}
+use Rattle.path_sum.proofs.Wellformed.{live-gates}
 
 -- the constant after a phase on a parity, merged or not
 phase-constant : (c : ℕ) (p : Parity) (φ : Polynomial) → phaseConstant c p (φ .constant) ≡ addPhase c p φ .constant
@@ -310,7 +309,7 @@ within-parts n [] hs l = (tt, l)
 within-parts n (g ∷ gs) hs l = let later = within-parts n gs hs (l .1) in ((l .0, later .0), later .1)
 
 -- gates add terms, at most their room
-terms-gates :
+pub terms-gates :
     (n : ℕ) (gs : List Gate) (s : PathSum) →
     (length (s .phase .terms) ≤ length (appendGates n gs s .phase .terms))
     × (length (appendGates n gs s .phase .terms) ≤ length (s .phase .terms) + tally roomFor gs)
@@ -323,30 +322,13 @@ terms-gates n (g ∷ gs) s =
     in
     (omega arith, omega (arith, terms-gate n g s))
 
--- a gate brings a live variable where it is an H
-live-gate : (n k : ℕ) (g : Gate) (s : PathSum) → s .live ≡ from n k → appendGate n g s .live ≡ from n (k + isH g)
-unfolding appendGate gate hadamard setWire withPhase oneQubitKind
-live-gate n k (one X q) s e = rw add-zero e
-live-gate n k (one Y q) s e = rw add-zero e
-live-gate n k (one Z q) s e = rw add-zero e
-live-gate n k (one S q) s e = rw add-zero e
-live-gate n k (one S† q) s e = rw add-zero e
-live-gate n k (one T q) s e = rw add-zero e
-live-gate n k (one T† q) s e = rw add-zero e
-live-gate n k (one H q) s e = rw (add-one, from-snoc, e, from-length)
-live-gate n k (two CX a b) s e = rw add-zero e
-live-gate n k (two CZ a b) s e = rw add-zero e
-live-gate n k (two SWAP a b) s e = rw add-zero e
-
 -- gates bring as many live variables as they have H gates
 live-appended : (n k : ℕ) (gs : List Gate) (s : PathSum) → s .live ≡ from n k → appendGates n gs s .live ≡ from n (k + hGates gs)
-unfolding appendGates tally
-live-appended n k [] s e = rw add-zero e
-live-appended n k (g ∷ gs) s e =
-    rw (← add-assoc) (live-appended n (k + isH g) gs (appendGate n g s) (live-gate n k g s e))
+unfolding withPhase
+live-appended n k gs s e = ap (λ (t : PathSum). t .live) (merged-gates n gs s) ∙ live-gates 2 n k gs (mergedSum s) e
 
 -- a sum and its workspaces stand for the path sum that they show, where its live variables are the next ones
-shows-sum :
+pub shows-sum :
     {u : PathSum} {n m : ℕ} {r : Sum} {ss cs ss′ cs′ : List ℕ} →
     Shows u n m r ss cs ss′ cs′ →
     (k : ℕ) →

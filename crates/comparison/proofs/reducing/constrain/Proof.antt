@@ -12,9 +12,10 @@ use Rattle.phase_sum.specs.Workspace.{parityOf}
 use Rattle.comparison.specs.declared.changes.Found.{Found}
 use Rattle.comparison.specs.declared.changes.Found.the-variants.{Variable, Nothing}
 use Rattle.comparison.specs.Inner.{sumOf, countsOf, foundOf}
-use Rattle.comparison.proofs.StepCases.{found-member, found-left, join-next, step-stuck, follows-itself}
+use Rattle.comparison.proofs.StepCases.{found-member, found-left, join-next, step-stuck}
 use Rattle.comparison.proofs.reducing.constrain.Statement.{statement}
 use Rattle.comparison.proofs.reducing.constrain.Tie as tie
+use Rattle.comparison.proofs.Sizing.{follows-itself}
 
 without-requires : tie.Need-without-requires
 without-requires c κs = search needs

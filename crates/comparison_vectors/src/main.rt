@@ -1,0 +1,31 @@
+// Runs the comparison and the pick on a table of rows that carry what they expect. It prints one line a row, 'ok' or 'FAILED', and last
+// the rows and those that failed.
+mod expect;
+mod identities;
+mod limits;
+mod picks;
+mod tally;
+mod text;
+mod workspaces;
+
+use tally::Tally;
+
+fn main() {
+    let mut t = Tally { rows: 0, failed: 0 };
+    t = limits::cx(t);
+    t = limits::hadamards(t);
+    t = limits::qubits(t);
+    t = limits::gates(t);
+    t = limits::lists(t);
+    t = limits::same(t);
+    t = workspaces::rubbish(t);
+    t = workspaces::refused(t);
+    t = workspaces::short(t);
+    t = workspaces::enough(t);
+    t = picks::rule(t);
+    t = picks::first(t);
+    t = picks::refused(t);
+    t = picks::little(t);
+    t = identities::all(t);
+    tally::total(t);
+}

@@ -1,0 +1,111 @@
+// A row that builds: two records, the second directly after the first.
+ghost use mathlib.Core.Path.{_≡_};
+ghost use mathlib.Core.Bool.{true};
+ghost use Prim.Native.Nat.{_+_, _<_, _≤_};
+ghost use mathlib.Core.List.{List};
+ghost use Rattle.gate_list.specs.Gate.{Gate};
+ghost use Rattle.gate_list.specs.Reading.{accepted, read};
+ghost use Rattle.amplitude.specs.Circuit.{hGates};
+ghost use Rattle.path_sum.specs.Room.{mostVariables};
+ghost use Rattle.phase_sum.specs.Unmerged.{gatesIn};
+use crate::print;
+use crate::row;
+use crate::steps::State;
+use gate_list::Checked;
+use gate_list::HEAD_SIZE;
+use gate_list::reader::check;
+use gate_list::reader::gates;
+use phase_sum::Sum;
+use phase_sum::building;
+use phase_sum::counting::h_gates;
+
+// The places that building asks of each workspace.
+const PLACES: usize = 3136;
+
+// The qubits of the record at the start of the bytes; 0 where it is turned down.
+fn qubits(s: &[u8]) -> usize
+    ensures { λ r. ⌜ (0 < r → (gs : List Gate) × (read (now (s .entry)) ≡ accepted r gs)) ⌝ }
+{
+    match check(s) {
+        Checked::Accepted { n, g: _ } => n,
+        Checked::Refused(_) => 0,
+    }
+}
+
+// Whether two lists on n qubits, by their gate bytes, have at most 64 variables together.
+fn few_variables(n: usize, first: &[u8], second: &[u8]) -> bool
+    ensures { λ r. ⌜ (r ≡ true → n + (hGates (gatesIn (now (first .entry))) + hGates (gatesIn (now (second .entry)))) ≤ mostVariables) ⌝ }
+{
+    let h = h_gates(first);
+    let k = h_gates(second);
+    if n > 64 {
+        return false;
+    }
+    if h > 64 {
+        return false;
+    }
+    if k > 64 {
+        return false;
+    }
+    n + (h + k) <= 64
+}
+
+// A sum: the next variable, the constant and the terms on a line, and the wires.
+fn show(sum: Sum, sets: &[u64], coeffs: &[u8]) {
+    let phase = sum.phase;
+    print::number(sum.next as u64);
+    print::number(print::wide(phase.constant));
+    print::terms(sets, coeffs, phase.count);
+    print::end();
+    print::wires(sum.wires);
+}
+
+// The sum of two accepted records on n qubits.
+fn sum_of(
+    state: State,
+    n: usize,
+    first: &[u8],
+    second: &[u8],
+    sets: &mut [u64],
+    coeffs: &mut [u8],
+) -> State
+    requires { ⌜ ((gs : List Gate) × (read (now first) ≡ accepted n gs)) × ((gs : List Gate) × (read (now second) ≡ accepted n gs)) ⌝ }
+{
+    if sets.len() < PLACES {
+        return state;
+    }
+    if coeffs.len() < PLACES {
+        return state;
+    }
+    let one = gates(first);
+    let two = gates(second);
+    if !few_variables(n, one, two) {
+        return state;
+    }
+    let sum = building::build(n, one, two, sets, coeffs);
+    show(sum, sets, coeffs);
+    let wires = sum.wires;
+    let phase = sum.phase;
+    State { wires, phase }
+}
+
+// The sum of the two records behind the row's head.
+pub(crate) fn build(state: State, body: &[u8], sets: &mut [u64], coeffs: &mut [u8]) -> State {
+    if body.len() < row::HEAD {
+        return state;
+    }
+    let first = &body[row::HEAD..];
+    let n = qubits(first);
+    if n == 0 {
+        return state;
+    }
+    let size = HEAD_SIZE + gates(first).len();
+    if first.len() < size {
+        return state;
+    }
+    let second = &first[size..];
+    if qubits(second) != n {
+        return state;
+    }
+    sum_of(state, n, first, second, sets, coeffs)
+}

@@ -1,0 +1,55 @@
+// Numbers in decimal, a space behind each, and line ends.
+use libc::STDOUT_FILENO;
+use phase_sum::Wires;
+
+// A number and a space.
+pub(crate) fn number(x: u64) {
+    io::print_decimal(STDOUT_FILENO, x);
+    io::write_all(STDOUT_FILENO, b" ");
+}
+
+// The end of a line.
+pub(crate) fn end() {
+    io::write_all(STDOUT_FILENO, b"\n");
+}
+
+// A byte as a number of 64 bits.
+pub(crate) fn wide(x: u8) -> u64 {
+    x as u64
+}
+
+// The first count terms: each set and its coefficient.
+pub(crate) fn terms(sets: &[u64], coeffs: &[u8], count: usize) {
+    let mut i = 0;
+    while i < count {
+        if i < sets.len() {
+            if i < coeffs.len() {
+                number(sets[i]);
+                number(wide(coeffs[i]));
+            }
+        }
+        i += 1;
+    }
+}
+
+// 1 or 0.
+pub(crate) fn bit(b: bool) {
+    if b {
+        number(1);
+    } else {
+        number(0);
+    }
+}
+
+// The wires, on a line of their own: each set and its constant.
+pub(crate) fn wires(w: Wires) {
+    let sets = w.sets;
+    let flips = w.flips;
+    let mut q = 0;
+    while q < 16 {
+        number(sets[q]);
+        bit(flips[q]);
+        q += 1;
+    }
+    end();
+}

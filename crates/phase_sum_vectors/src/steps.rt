@@ -1,0 +1,166 @@
+// What each row does: one function of the phase-sum layer, on the terms and wires that earlier rows left.
+use crate::pair;
+use crate::print;
+use crate::row;
+use crate::row::Row;
+use phase_sum::Phase;
+use phase_sum::Wire;
+use phase_sum::Wires;
+use phase_sum::canonical;
+use phase_sum::sets;
+use phase_sum::stepping;
+use phase_sum::terms;
+
+pub struct State {
+    pub wires: Wires,
+    pub phase: Phase,
+}
+
+// A term at a place; none past the end.
+fn put(sets: &mut [u64], coeffs: &mut [u8], i: usize, set: u64, coeff: u8) {
+    if i >= sets.len() {
+        return;
+    }
+    if i >= coeffs.len() {
+        return;
+    }
+    sets[i] = set;
+    coeffs[i] = coeff;
+}
+
+// The row's terms at the front of the workspaces.
+fn load(r: Row, body: &[u8], sets: &mut [u64], coeffs: &mut [u8]) -> Phase {
+    let count = r.count;
+    let mut i = 0;
+    let mut at = row::HEAD;
+    while i < count {
+        let coeff = row::byte(body, std::num::wrapping_add_usize(at, 8));
+        put(sets, coeffs, i, row::word(body, at), coeff);
+        i += 1;
+        at = std::num::wrapping_add_usize(at, row::TERM);
+    }
+    Phase {
+        constant: r.constant,
+        count,
+    }
+}
+
+// A row that changes the phase; where the workspaces hold no such count of terms, none does.
+fn change(phase: Phase, r: Row, body: &[u8], sets: &mut [u64], coeffs: &mut [u8]) -> Phase {
+    let count = phase.count;
+    if count > sets.len() {
+        return phase;
+    }
+    if count > coeffs.len() {
+        return phase;
+    }
+    let function = r.function;
+    let v = (r.variable % 64) as u32;
+    match function {
+        row::LOAD => load(r, body, sets, coeffs),
+        row::CANONICAL => Phase {
+            constant: phase.constant,
+            count: canonical::canonical(sets, coeffs, count),
+        },
+        row::REPLACE => stepping::replace_in_terms(
+            sets,
+            coeffs,
+            phase,
+            v,
+            Wire {
+                set: r.set,
+                flipped: r.flipped,
+            },
+        ),
+        row::TAKE_OUT => stepping::take_out(sets, coeffs, phase, v),
+        row::CLEAR => {
+            terms::clear(sets, coeffs, count);
+            Phase {
+                constant: 0,
+                count: 0,
+            }
+        }
+        row::APPEND => append(phase, r, sets, coeffs),
+        _ => phase,
+    }
+}
+
+// A term more.
+fn append(phase: Phase, r: Row, sets: &mut [u64], coeffs: &mut [u8]) -> Phase {
+    let count = phase.count;
+    if count >= sets.len() {
+        return phase;
+    }
+    if count >= coeffs.len() {
+        return phase;
+    }
+    Phase {
+        constant: phase.constant,
+        count: terms::append(sets, coeffs, count, r.set, r.constant),
+    }
+}
+
+// What a row asks for.
+fn ask(phase: Phase, r: Row, sets: &[u64], coeffs: &[u8]) {
+    let count = phase.count;
+    if count > sets.len() {
+        return;
+    }
+    if count > coeffs.len() {
+        return;
+    }
+    let function = r.function;
+    let v = (r.variable % 64) as u32;
+    match function {
+        row::ODD_MASK => print::number(stepping::odd_mask(sets, coeffs, count)),
+        row::HALVES => {
+            let h = stepping::halves_of(sets, coeffs, count, v);
+            print::number(print::wide(h.c));
+            print::number(h.l);
+        }
+        row::PHASE_AT => print::number(print::wide(terms::phase_at(sets, coeffs, phase, r.set))),
+        row::PARITY => print::bit(sets::parity(r.set, sets::single(v))),
+        _ => {}
+    }
+}
+
+// One row, and the line for it: what it asks for, the constant, the terms and the wires afterwards.
+pub(crate) fn step(
+    state: State,
+    r: Row,
+    body: &[u8],
+    sets: &mut [u64],
+    coeffs: &mut [u8],
+) -> State {
+    let function = r.function;
+    let old = state.phase;
+    let before = state.wires;
+    if function == row::BUILD {
+        return pair::build(state, body, sets, coeffs);
+    }
+    let phase = change(old, r, body, sets, coeffs);
+    if r.quiet {
+        return State {
+            wires: before,
+            phase,
+        };
+    }
+    ask(phase, r, sets, coeffs);
+    print::number(print::wide(phase.constant));
+    print::terms(sets, coeffs, phase.count);
+    print::end();
+    let mut wires = before;
+    if function == row::REPLACE {
+        wires = stepping::replace_in_wires(
+            before,
+            16,
+            (r.variable % 64) as u32,
+            Wire {
+                set: r.set,
+                flipped: r.flipped,
+            },
+        );
+    }
+    print::wires(wires);
+    State { wires, phase }
+}
