@@ -141,7 +141,7 @@ def check_columns(n, first, second, line):
 
 
 def main():
-    pairs = int(sys.argv[1]) if len(sys.argv) > 1 else 4000
+    pairs = int(sys.argv[1]) if len(sys.argv) > 1 else 12000
     rng = random.Random(SEED)
     tally, dense = Counter(), 0
     for i in range(pairs):
