@@ -1,4 +1,5 @@
 // The comparison of two gate lists and the pick: document 01, "Reducing it", "Report, pick, builder" and "Where a call is turned down".
+// The public calls are comparing::compare, picking::pick and number; none has a `requires`.
 pub mod changes;
 pub mod comparing;
 pub mod judging;

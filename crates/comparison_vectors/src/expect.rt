@@ -1,11 +1,11 @@
 // What a row expects, and whether it came.
-use crate::tally::Tally;
-use crate::tally::row;
 use crate::text;
 use comparison::Answer;
 use comparison::Outcome;
 use comparison::Verdict;
 use comparison::comparing::compare;
+use rows::Tally;
+use rows::row;
 
 // The eight fields of a result; verdict: 0 equal, 1 different, 2 undecided.
 pub struct Line(

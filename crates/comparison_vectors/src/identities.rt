@@ -1,7 +1,7 @@
 // Published gate identities, each with a near miss. The expected lines are those of the steps, worked out by another implementation.
 use crate::expect::Line;
 use crate::expect::pair;
-use crate::tally::Tally;
+use rows::Tally;
 
 // Rows 1 to 4.
 fn part_1(t: Tally) -> Tally {

@@ -2,8 +2,6 @@
 use crate::expect::Line;
 use crate::expect::refuses;
 use crate::expect::says;
-use crate::tally::Tally;
-use crate::tally::row;
 use crate::text;
 use comparison::Answer;
 use comparison::comparing::compare;
@@ -11,6 +9,8 @@ use gate_list::NO_QUBIT;
 use gate_list::builder::add;
 use gate_list::builder::start;
 use gate_list::gate;
+use rows::Tally;
+use rows::row;
 
 // A record of so many gates of one kind on n qubits, one qubit after another.
 fn repeat(kind: u8, n: usize, count: usize, buffer: &mut [u8]) {

@@ -4,11 +4,10 @@ mod expect;
 mod identities;
 mod limits;
 mod picks;
-mod tally;
 mod text;
 mod workspaces;
 
-use tally::Tally;
+use rows::Tally;
 
 fn main() {
     let mut t = Tally { rows: 0, failed: 0 };
@@ -27,5 +26,5 @@ fn main() {
     t = picks::refused(t);
     t = picks::little(t);
     t = identities::all(t);
-    tally::total(t);
+    rows::total(t);
 }

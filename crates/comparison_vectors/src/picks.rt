@@ -1,8 +1,8 @@
 // The pick: document 01, "Report, pick, builder".
-use crate::tally::Tally;
-use crate::tally::row;
 use crate::text;
 use comparison::picking::pick;
+use rows::Tally;
+use rows::row;
 
 // The part is the first so many bytes of the buffer.
 fn is_front(part: &[u8], buffer: &[u8], size: usize) -> bool {

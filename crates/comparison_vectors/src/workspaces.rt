@@ -2,11 +2,11 @@
 use crate::expect::Line;
 use crate::expect::refuses;
 use crate::expect::says;
-use crate::tally::Tally;
-use crate::tally::row;
 use crate::text;
 use comparison::Answer;
 use comparison::comparing::compare;
+use rows::Tally;
+use rows::row;
 
 // The words from one place up to another are this.
 fn words_are(words: &[u64], from: usize, to: usize, word: u64) -> bool {

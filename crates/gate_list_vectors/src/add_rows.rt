@@ -3,11 +3,11 @@ use crate::expect::Want;
 use crate::expect::accepted;
 use crate::expect::refused;
 use crate::expect::written;
-use crate::tally::Tally;
-use crate::tally::row;
 use gate_list::Written;
 use gate_list::builder::add;
 use gate_list::builder::start;
+use rows::Tally;
+use rows::row;
 
 // add on a buffer.
 fn on(

@@ -1,10 +1,10 @@
 // What a row expects of a call, one function for each kind of answer. Each prints its row.
-use crate::tally::Tally;
-use crate::tally::row;
 use gate_list::Checked;
 use gate_list::Report;
 use gate_list::ReportRead;
 use gate_list::Written;
+use rows::Tally;
+use rows::row;
 
 // A refusal's number.
 fn is_number(r: gate_list::Refusal, number: u8) -> bool {

@@ -1,9 +1,9 @@
 // Rows for inverse. The buffer is patterned, so that a byte that changes is seen.
 use crate::expect::Want;
 use crate::expect::written;
-use crate::tally::Tally;
-use crate::tally::row;
 use gate_list::inverter::inverse;
+use rows::Tally;
+use rows::row;
 
 // inverse into the first `size` bytes of the buffer.
 fn on(

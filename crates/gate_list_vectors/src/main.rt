@@ -6,9 +6,8 @@ mod inverse_rows;
 mod read_rows;
 mod report_rows;
 mod start_rows;
-mod tally;
 
-use tally::Tally;
+use rows::Tally;
 
 fn main() {
     let mut t = Tally { rows: 0, failed: 0 };
@@ -35,5 +34,5 @@ fn main() {
     t = report_rows::writer(t);
     t = report_rows::reader(t);
     t = report_rows::reader_fields(t);
-    tally::total(t);
+    rows::total(t);
 }

@@ -2,7 +2,7 @@
 use crate::expect::accepted;
 use crate::expect::part;
 use crate::expect::refused;
-use crate::tally::Tally;
+use rows::Tally;
 
 pub(crate) fn head(u: Tally) -> Tally {
     let mut t = u;

@@ -3,10 +3,10 @@ use crate::expect::Want;
 use crate::expect::report_fields;
 use crate::expect::report_refused;
 use crate::expect::written;
-use crate::tally::Tally;
-use crate::tally::row;
 use gate_list::Report;
 use gate_list::reporter::write_report;
+use rows::Tally;
+use rows::row;
 
 fn sample(verdict: u8) -> Report {
     Report {
