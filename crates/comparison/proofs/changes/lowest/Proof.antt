@@ -5,8 +5,6 @@ use native.Mathlib.Omega.{arith}
 use Rattle.comparison.proofs.Members.{lowest-variable, lowest-none}
 use Rattle.comparison.proofs.changes.lowest.Statement.{statement}
 use Rattle.comparison.proofs.changes.lowest.Tie as tie
-use Rattle.comparison.proofs.changes.lowest.Reads as reads
-use Rattle.comparison.proofs.changes.lowest.Lts as lts
 
 returns : tie.Need-returns
 returns c = let e : c .before .args .set ≡ 0 = omega arith in simp e (sym lowest-none)
