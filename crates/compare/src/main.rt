@@ -2,6 +2,7 @@
 // and the number: document 01, "Pairs to try".
 use comparison::Answer;
 use comparison::Outcome;
+use comparison::PLACES;
 use comparison::Verdict;
 use comparison::comparing::compare;
 use gate_list::Checked;
@@ -98,7 +99,7 @@ fn run(input: &[u8], sets: &mut [u64], coeffs: &mut [u8]) {
 fn main() {
     let mut buffer = [0u8; MOST_BYTES];
     let got = io::read_full(STDIN_FILENO, &mut buffer);
-    let mut sets = [0u64; 3136];
-    let mut coeffs = [0u8; 3136];
+    let mut sets = [0u64; PLACES];
+    let mut coeffs = [0u8; PLACES];
     run(&buffer[..got], &mut sets, &mut coeffs);
 }

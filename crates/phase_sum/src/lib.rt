@@ -4,9 +4,12 @@
 //
 // These take any arguments: sets::exclusive_or, sets::union, sets::parity, terms::add, terms::negate, counting::h_gates, counting::t_gates.
 //
-// These have a `requires` and are for the comparison, which meets it: sets::single, sets::holds and all of stepping (variables below 64,
-// and as many places as terms), terms::append, terms::clear, terms::phase_at and canonical::canonical (places), all of building (gates
-// within n, at most 64 variables, and places for the room of the gates).
+// These have a `requires`, which the comparison meets: sets::single, terms::clear, terms::phase_at, building::wire, building::build and,
+// of stepping, without, replace_in_wires, replace_in_terms, take_out, turn_out, join_out, odd_mask and halves_of (variables below 64, as
+// many places as terms; for build, gates within n, at most 64 variables, and places for the room of the gates).
+//
+// These have one too and are called in this crate, where it is met: sets::holds, terms::append, canonical::canonical, building::start,
+// run_gate, forwards and backwards. Beside it only the test program calls some of them.
 pub mod building;
 pub mod canonical;
 pub mod counting;
