@@ -3,7 +3,7 @@
 use mathlib.Core.Path.{_≡_, refl}
 use mathlib.Core.Bool.{xor}
 use mathlib.Core.List.{[], _∷_}
-use Rattle.gate_list.specs.Gate.{one, two, X, Y, Z, T, H, CX, SWAP}
+use Rattle.record_format.specs.Gate.{one, two, X, Y, Z, T, H, CX, SWAP}
 use Rattle.amplitude.specs.Number.{whole, 0ω, 1ω, _+ω_, neg, mulω, ω^, mul√2, √2^}
 use Rattle.amplitude.specs.Bits.{bit, put}
 use Rattle.amplitude.specs.Matrix.{matrix, entry, times}

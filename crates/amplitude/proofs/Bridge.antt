@@ -9,8 +9,8 @@ use native.Mathlib.Nat.{add-comm, add-assoc, zero-add}
 use native.Mathlib.Decide.{decLt, ℕ-discrete}
 use native.Mathlib.Omega.{arith}
 use lib.Pow.{pow-pos, pow-lt}
-use Rattle.gate_list.specs.Gate.{Gate, AllWithin, inverseList}
-use Rattle.gate_list.proofs.GateLaws.{within-append, within-inverse}
+use Rattle.record_format.specs.Gate.{Gate, AllWithin, inverseList}
+use Rattle.record_format.proofs.GateLaws.{within-append, within-inverse}
 use Rattle.amplitude.specs.Number.{Zω, 0ω, 1ω, ω^, √2^}
 use Rattle.amplitude.specs.Circuit.{State, basis, run, column, hGates, Fits, Carries}
 use Rattle.amplitude.proofs.NumberLaws.{ω^-0ω, ω^-mod, ω^-cong, ω^-undo, ω^-unique, √2^-0ω, √2^-ω^, √2^-add, √2^-cancel}

@@ -6,8 +6,8 @@ use mathlib.Core.Bool.{Bool, true, false, cond, _&&_}
 use mathlib.Core.List.{List, [], _∷_, _++_}
 use Prim.Native.Nat.{ℕ, _+_}
 use native.Mathlib.Omega.{arith}
-use Rattle.gate_list.specs.Gate.{OneQubit, X, Y, Z, S, S†, T, T†, H, Gate, one, two, CX, CZ, SWAP, oneQubitKind, inverseKind, inverseGate, inverseList}
-use Rattle.gate_list.proofs.GateLaws.{inverse-cons}
+use Rattle.record_format.specs.Gate.{OneQubit, X, Y, Z, S, S†, T, T†, H, Gate, one, two, CX, CZ, SWAP, oneQubitKind, inverseKind, inverseGate, inverseList}
+use Rattle.record_format.proofs.GateLaws.{inverse-cons}
 use Rattle.amplitude.specs.Number.{Zω, 0ω, _+ω_, ω^, √2^}
 use Rattle.amplitude.specs.Bits.{bit, put}
 use Rattle.amplitude.specs.Matrix.{Entry, O, ω, Matrix, matrix, entry, times}

@@ -6,7 +6,7 @@ use mathlib.Core.List.{List, [], _∷_}
 use Prim.Native.Nat.{ℕ, _^_, _<_, _≤_}
 use native.Mathlib.Omega.{arith}
 use borrow.Author.Tests.{eq-eqb, ne-eqb}
-use Rattle.gate_list.specs.Gate.{Gate, one, two, CX, CZ, SWAP, Within, AllWithin}
+use Rattle.record_format.specs.Gate.{Gate, one, two, CX, CZ, SWAP, Within, AllWithin}
 use Rattle.amplitude.specs.Number.{0ω, 1ω, ω^}
 use Rattle.amplitude.specs.Bits.{bit, put}
 use Rattle.amplitude.specs.Circuit.{State, basis, apply, run, column}

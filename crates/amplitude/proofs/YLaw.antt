@@ -3,7 +3,7 @@
 use mathlib.Core.Path.{_≡_, refl, fun-ext}
 use Prim.Native.Nat.{ℕ}
 use mathlib.Core.Bool.{Bool, true, false}
-use Rattle.gate_list.specs.Gate.{one, X, Y, Z}
+use Rattle.record_format.specs.Gate.{one, X, Y, Z}
 use Rattle.amplitude.specs.Number.{ω^}
 use Rattle.amplitude.specs.Bits.{bit}
 use Rattle.amplitude.specs.Matrix.{matrix, entry, times}

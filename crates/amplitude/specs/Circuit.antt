@@ -6,7 +6,7 @@ use Prim.Native.Nat.{ℕ, _+_, _^_, _<_}
 use mathlib.Core.Bool.{true, false, cond, _&&_, _||_, xor}
 use mathlib.Core.List.{List, [], _∷_}
 use lib.Dec.{eqb}
-use Rattle.gate_list.specs.Gate.{Gate, one, two, CX, CZ, SWAP, oneQubitKind}
+use Rattle.record_format.specs.Gate.{Gate, one, two, CX, CZ, SWAP, oneQubitKind}
 use Rattle.amplitude.specs.Number.{Zω, 0ω, 1ω, _+ω_, ω^, √2^}
 use Rattle.amplitude.specs.Bits.{digit, bit, put}
 use Rattle.amplitude.specs.Matrix.{matrix, entry, times}

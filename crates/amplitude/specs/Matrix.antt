@@ -2,7 +2,7 @@
 -- Assumes nothing.
 use Prim.Native.Nat.{ℕ}
 use mathlib.Core.Bool.{Bool, true, false}
-use Rattle.gate_list.specs.Gate.{OneQubit, X, Y, Z, S, S†, T, T†, H}
+use Rattle.record_format.specs.Gate.{OneQubit, X, Y, Z, S, S†, T, T†, H}
 use Rattle.amplitude.specs.Number.{Zω, 0ω, ω^}
 
 -- an entry: O is 0, ω k is the k-th power of ω

@@ -4,14 +4,14 @@ use comparison::Answer;
 use comparison::Outcome;
 use comparison::PLACES;
 use comparison::Verdict;
-use comparison::comparing::compare;
-use gate_list::Checked;
-use gate_list::GATE_SIZE;
-use gate_list::HEAD_SIZE;
-use gate_list::MOST_GATES;
-use gate_list::reader::check;
+use comparison::compare;
 use libc::STDIN_FILENO;
 use libc::STDOUT_FILENO;
+use record_format::Checked;
+use record_format::GATE_SIZE;
+use record_format::HEAD_SIZE;
+use record_reading::MOST_GATES;
+use record_reading::check;
 
 // Two records take 3,082 bytes at the most; one byte more tells whether others follow.
 const MOST_BYTES: usize = 3083;
@@ -68,7 +68,7 @@ fn print_outcome(o: Outcome) {
 fn print_answer(answer: Answer) {
     match answer {
         Answer::Compared(outcome) => print_outcome(outcome),
-        Answer::Refused(refusal) => print_refused(comparison::number(refusal) as u64),
+        Answer::Refused(refusal) => print_refused(comparison_types::number(refusal) as u64),
     }
 }
 
@@ -86,7 +86,7 @@ fn run_pair(first: &[u8], second: &[u8], sets: &mut [u64], coeffs: &mut [u8]) {
 // The input: the first record, and the second directly after it.
 fn run(input: &[u8], sets: &mut [u64], coeffs: &mut [u8]) {
     match check(input) {
-        Checked::Refused(refusal) => print_refused(gate_list::number(refusal) as u64),
+        Checked::Refused(refusal) => print_refused(record_format::number(refusal) as u64),
         Checked::Accepted { n: _, g } => {
             let size = size_of(g);
             if size <= input.len() {

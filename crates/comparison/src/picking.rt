@@ -4,17 +4,17 @@ ghost use Prim.Native.Nat.{ℕ};
 ghost use mathlib.Core.Bool.{_&&_};
 ghost use mathlib.Core.List.{List};
 ghost use lib.ListN.{length};
-ghost use Rattle.gate_list.specs.Gate.{Gate};
-ghost use Rattle.gate_list.specs.Reading.{accepted, read};
-ghost use Rattle.comparison.specs.Call.{comparison, leftBy, verdictOf, isEqual, better, picked, ownBytes, pickedPart, pickedAt};
-ghost use Rattle.comparison.specs.Clauses.{PickIsRight, EmptyIfRefused};
-ghost use Rattle.comparison.specs.Inner.{AcceptedOn};
-use crate::Answer;
-use crate::Verdict;
+ghost use Rattle.record_format.specs.Gate.{Gate};
+ghost use Rattle.record_format.specs.Reading.{accepted, read};
+ghost use Rattle.comparison_types.specs.Call.{comparison, leftBy, verdictOf, isEqual, better, picked, ownBytes, pickedPart, pickedAt};
+ghost use Rattle.comparison_types.specs.Clauses.{PickIsRight, EmptyIfRefused};
+ghost use Rattle.comparison_types.specs.Inner.{AcceptedOn};
 use crate::comparing::compare;
-use gate_list::HEAD_SIZE;
-use gate_list::reader::gates;
-use phase_sum::counting::t_gates;
+use comparison_types::Answer;
+use comparison_types::Verdict;
+use phase_sum_terms::counting::t_gates;
+use record_format::HEAD_SIZE;
+use record_reading::gates;
 
 // Is the second list better: fewer T gates, or as many and fewer gates?
 fn second_is_better(first: &[u8], second: &[u8]) -> bool

@@ -1,9 +1,9 @@
 // What a row expects, and whether it came.
 use crate::text;
-use comparison::Answer;
-use comparison::Outcome;
-use comparison::Verdict;
-use comparison::comparing::compare;
+use comparison::compare;
+use comparison_types::Answer;
+use comparison_types::Outcome;
+use comparison_types::Verdict;
 use rows::Tally;
 use rows::row;
 
@@ -72,7 +72,7 @@ pub(crate) fn says(answer: Answer, e: Line) -> bool {
 pub(crate) fn refuses(answer: Answer, number: u8) -> bool {
     match answer {
         Answer::Compared(_) => false,
-        Answer::Refused(refusal) => comparison::number(refusal) == number,
+        Answer::Refused(refusal) => comparison_types::number(refusal) == number,
     }
 }
 

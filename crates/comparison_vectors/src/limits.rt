@@ -3,12 +3,12 @@ use crate::expect::Line;
 use crate::expect::refuses;
 use crate::expect::says;
 use crate::text;
-use comparison::Answer;
-use comparison::comparing::compare;
-use gate_list::NO_QUBIT;
-use gate_list::builder::add;
-use gate_list::builder::start;
-use gate_list::gate;
+use comparison::compare;
+use comparison_types::Answer;
+use record_format::NO_QUBIT;
+use record_format::gate;
+use record_writing::add;
+use record_writing::start;
 use rows::Tally;
 use rows::row;
 

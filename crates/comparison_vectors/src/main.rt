@@ -1,8 +1,9 @@
 // Runs the comparison and the pick on a table of rows that carry what they expect. It prints one line a row, 'ok' or 'FAILED', and last
 // the rows and those that failed.
 mod expect;
-mod identities;
 mod limits;
+mod lines;
+mod pairs;
 mod picks;
 mod text;
 mod workspaces;
@@ -25,6 +26,6 @@ fn main() {
     t = picks::first(t);
     t = picks::refused(t);
     t = picks::little(t);
-    t = identities::all(t);
     rows::total(t);
+    pairs::all();
 }

@@ -1,6 +1,6 @@
 // The pick: document 01, "Report, pick, builder".
 use crate::text;
-use comparison::picking::pick;
+use comparison::pick;
 use rows::Tally;
 use rows::row;
 

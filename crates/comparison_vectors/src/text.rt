@@ -1,9 +1,9 @@
 // Records from text: for each gate a letter, a qubit in hexadecimal and, for a gate on two qubits, the second; a space behind each. The
 // letters: x y z s t h, r and u for the inverses of S and T, c for CX, k for CZ, w for SWAP.
-use gate_list::NO_QUBIT;
-use gate_list::builder::add;
-use gate_list::builder::start;
-use gate_list::gate;
+use record_format::NO_QUBIT;
+use record_format::gate;
+use record_writing::add;
+use record_writing::start;
 
 // The kind of a letter.
 fn kind_of(letter: u8) -> u8 {
@@ -23,7 +23,7 @@ fn kind_of(letter: u8) -> u8 {
 }
 
 // The qubit of a hexadecimal digit; b of a gate on one qubit for a space.
-fn qubit_of(digit: u8) -> u8 {
+pub(crate) fn qubit_of(digit: u8) -> u8 {
     if digit < b'0' {
         return NO_QUBIT;
     }
@@ -37,7 +37,7 @@ fn qubit_of(digit: u8) -> u8 {
 }
 
 // The byte at a place, a space past the end.
-fn byte(text: &[u8], at: usize) -> u8 {
+pub(crate) fn byte(text: &[u8], at: usize) -> u8 {
     if at < text.len() { text[at] } else { b' ' }
 }
 
@@ -49,11 +49,15 @@ fn begins(text: &[u8], at: usize) -> bool {
     if at == 0 {
         return true;
     }
-    byte(text, std::num::wrapping_sub_usize(at, 1)) == b' '
+    let before = byte(text, std::num::wrapping_sub_usize(at, 1));
+    if before == b';' {
+        return true;
+    }
+    before == b' '
 }
 
 // The gate that begins at this place of a text, if one does, added to the record in the buffer.
-fn add_gate(text: &[u8], at: usize, buffer: &mut [u8]) {
+pub(crate) fn add_gate(text: &[u8], at: usize, buffer: &mut [u8]) {
     if !begins(text, at) {
         return;
     }

@@ -3,8 +3,8 @@ use crate::expect::Line;
 use crate::expect::refuses;
 use crate::expect::says;
 use crate::text;
-use comparison::Answer;
-use comparison::comparing::compare;
+use comparison::compare;
+use comparison_types::Answer;
 use rows::Tally;
 use rows::row;
 

@@ -3,9 +3,9 @@ use crate::expect::Want;
 use crate::expect::accepted;
 use crate::expect::refused;
 use crate::expect::written;
-use gate_list::Written;
-use gate_list::builder::add;
-use gate_list::builder::start;
+use record_format::Written;
+use record_writing::add;
+use record_writing::start;
 use rows::Tally;
 use rows::row;
 
@@ -256,7 +256,7 @@ fn one_more(t: Tally, name: &[u8], buffer: &mut [u8], kind: u8) -> Tally {
     match add(buffer, kind, 0, 255) {
         Written::Length(_) => row(t, name, false),
         Written::Refused(r) => {
-            if gate_list::number(r) == 4 {
+            if record_format::number(r) == 4 {
                 row(t, name, is_full(buffer))
             } else {
                 row(t, name, false)

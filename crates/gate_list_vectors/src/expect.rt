@@ -1,19 +1,19 @@
 // What a row expects of a call, one function for each kind of answer. Each prints its row.
-use gate_list::Checked;
-use gate_list::Report;
-use gate_list::ReportRead;
-use gate_list::Written;
+use record_format::Checked;
+use record_format::Report;
+use record_format::ReportRead;
+use record_format::Written;
 use rows::Tally;
 use rows::row;
 
 // A refusal's number.
-fn is_number(r: gate_list::Refusal, number: u8) -> bool {
-    gate_list::number(r) == number
+fn is_number(r: record_format::Refusal, number: u8) -> bool {
+    record_format::number(r) == number
 }
 
 // check accepts the record, with n and g.
 pub(crate) fn accepted(t: Tally, name: &[u8], record: &[u8], n: usize, g: usize) -> Tally {
-    match gate_list::reader::check(record) {
+    match record_reading::check(record) {
         Checked::Accepted { n: m, g: h } => {
             if m == n {
                 row(t, name, h == g)
@@ -27,10 +27,10 @@ pub(crate) fn accepted(t: Tally, name: &[u8], record: &[u8], n: usize, g: usize)
 
 // check refuses the record with this number, and gate reading gives an empty part.
 pub(crate) fn refused(t: Tally, name: &[u8], record: &[u8], number: u8) -> Tally {
-    match gate_list::reader::check(record) {
+    match record_reading::check(record) {
         Checked::Accepted { n: _, g: _ } => row(t, name, false),
         Checked::Refused(r) => {
-            if gate_list::reader::gates(record).len() == 0 {
+            if record_reading::gates(record).len() == 0 {
                 row(t, name, is_number(r, number))
             } else {
                 row(t, name, false)
@@ -41,11 +41,7 @@ pub(crate) fn refused(t: Tally, name: &[u8], record: &[u8], number: u8) -> Tally
 
 // Gate reading gives these bytes.
 pub(crate) fn part(t: Tally, name: &[u8], record: &[u8], gates: &[u8]) -> Tally {
-    row(
-        t,
-        name,
-        check::same(gate_list::reader::gates(record), gates),
-    )
+    row(t, name, check::same(record_reading::gates(record), gates))
 }
 
 // What a writer is expected to answer: the record's length, or a refusal's number.
@@ -85,7 +81,7 @@ pub(crate) fn written(
 
 // The report reader refuses with this number.
 pub(crate) fn report_refused(t: Tally, name: &[u8], s: &[u8], number: u8) -> Tally {
-    match gate_list::reporter::read_report(s) {
+    match record_report::read_report(s) {
         ReportRead::Fields(_) => row(t, name, false),
         ReportRead::Refused(r) => row(t, name, is_number(r, number)),
     }
@@ -93,7 +89,7 @@ pub(crate) fn report_refused(t: Tally, name: &[u8], s: &[u8], number: u8) -> Tal
 
 // The report reader gives these fields.
 pub(crate) fn report_fields(t: Tally, name: &[u8], s: &[u8], want: Report) -> Tally {
-    match gate_list::reporter::read_report(s) {
+    match record_report::read_report(s) {
         ReportRead::Fields(r) => row(t, name, same_report(r, want)),
         ReportRead::Refused(_) => row(t, name, false),
     }

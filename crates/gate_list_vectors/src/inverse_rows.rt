@@ -1,7 +1,7 @@
 // Rows for inverse. The buffer is patterned, so that a byte that changes is seen.
 use crate::expect::Want;
 use crate::expect::written;
-use gate_list::inverter::inverse;
+use record_writing::inverse;
 use rows::Tally;
 use rows::row;
 

@@ -3,8 +3,8 @@ use crate::expect::Want;
 use crate::expect::report_fields;
 use crate::expect::report_refused;
 use crate::expect::written;
-use gate_list::Report;
-use gate_list::reporter::write_report;
+use record_format::Report;
+use record_report::write_report;
 use rows::Tally;
 use rows::row;
 

@@ -1,7 +1,7 @@
 // Rows for start. The buffer is patterned, so that a byte that changes is seen.
 use crate::expect::Want;
 use crate::expect::written;
-use gate_list::builder::start;
+use record_writing::start;
 use rows::Tally;
 use rows::row;
 

@@ -6,8 +6,8 @@ mod row;
 mod steps;
 
 use libc::STDIN_FILENO;
-use phase_sum::Phase;
-use phase_sum::Wires;
+use phase_sum_terms::Phase;
+use phase_sum_terms::Wires;
 
 // One row after another, until the input ends.
 fn run(input: &[u8], sets: &mut [u64], coeffs: &mut [u8]) {

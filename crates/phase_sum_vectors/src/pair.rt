@@ -3,21 +3,20 @@ ghost use mathlib.Core.Path.{_≡_};
 ghost use mathlib.Core.Bool.{true};
 ghost use Prim.Native.Nat.{_+_, _<_, _≤_};
 ghost use mathlib.Core.List.{List};
-ghost use Rattle.gate_list.specs.Gate.{Gate};
-ghost use Rattle.gate_list.specs.Reading.{accepted, read};
+ghost use Rattle.record_format.specs.Gate.{Gate};
+ghost use Rattle.record_format.specs.Reading.{accepted, read};
 ghost use Rattle.amplitude.specs.Circuit.{hGates};
-ghost use Rattle.path_sum.specs.Room.{mostVariables};
-ghost use Rattle.phase_sum.specs.Unmerged.{gatesIn};
+ghost use Rattle.phase_sum_meaning.specs.Room.{mostVariables};
+ghost use Rattle.phase_sum_terms.specs.Unmerged.{gatesIn};
 use crate::print;
 use crate::row;
 use crate::steps::State;
-use gate_list::Checked;
-use gate_list::HEAD_SIZE;
-use gate_list::reader::check;
-use gate_list::reader::gates;
-use phase_sum::Sum;
-use phase_sum::building;
-use phase_sum::counting::h_gates;
+use phase_sum_terms::Sum;
+use phase_sum_terms::counting::h_gates;
+use record_format::Checked;
+use record_format::HEAD_SIZE;
+use record_reading::check;
+use record_reading::gates;
 
 // The places that building asks of each workspace.
 const PLACES: usize = 3136;
@@ -82,7 +81,7 @@ fn sum_of(
     if !few_variables(n, one, two) {
         return state;
     }
-    let sum = building::build(n, one, two, sets, coeffs);
+    let sum = phase_sum_building::build(n, one, two, sets, coeffs);
     show(sum, sets, coeffs);
     let wires = sum.wires;
     let phase = sum.phase;

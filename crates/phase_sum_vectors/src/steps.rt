@@ -3,13 +3,11 @@ use crate::pair;
 use crate::print;
 use crate::row;
 use crate::row::Row;
-use phase_sum::Phase;
-use phase_sum::Wire;
-use phase_sum::Wires;
-use phase_sum::canonical;
-use phase_sum::sets;
-use phase_sum::stepping;
-use phase_sum::terms;
+use phase_sum_terms::Phase;
+use phase_sum_terms::Wire;
+use phase_sum_terms::Wires;
+use phase_sum_terms::sets;
+use phase_sum_terms::terms;
 
 pub struct State {
     pub wires: Wires,
@@ -60,9 +58,9 @@ fn change(phase: Phase, r: Row, body: &[u8], sets: &mut [u64], coeffs: &mut [u8]
         row::LOAD => load(r, body, sets, coeffs),
         row::CANONICAL => Phase {
             constant: phase.constant,
-            count: canonical::canonical(sets, coeffs, count),
+            count: phase_sum_merging::canonical(sets, coeffs, count),
         },
-        row::REPLACE => stepping::replace_in_terms(
+        row::REPLACE => phase_sum_stepping::replace_in_terms(
             sets,
             coeffs,
             phase,
@@ -72,7 +70,7 @@ fn change(phase: Phase, r: Row, body: &[u8], sets: &mut [u64], coeffs: &mut [u8]
                 flipped: r.flipped,
             },
         ),
-        row::TAKE_OUT => stepping::take_out(sets, coeffs, phase, v),
+        row::TAKE_OUT => phase_sum_stepping::take_out(sets, coeffs, phase, v),
         row::CLEAR => {
             terms::clear(sets, coeffs, count);
             Phase {
@@ -112,9 +110,9 @@ fn ask(phase: Phase, r: Row, sets: &[u64], coeffs: &[u8]) {
     let function = r.function;
     let v = (r.variable % 64) as u32;
     match function {
-        row::ODD_MASK => print::number(stepping::odd_mask(sets, coeffs, count)),
+        row::ODD_MASK => print::number(phase_sum_stepping::odd_mask(sets, coeffs, count)),
         row::HALVES => {
-            let h = stepping::halves_of(sets, coeffs, count, v);
+            let h = phase_sum_stepping::halves_of(sets, coeffs, count, v);
             print::number(print::wide(h.c));
             print::number(h.l);
         }
@@ -151,7 +149,7 @@ pub(crate) fn step(
     print::end();
     let mut wires = before;
     if function == row::REPLACE {
-        wires = stepping::replace_in_wires(
+        wires = phase_sum_stepping::replace_in_wires(
             before,
             16,
             (r.variable % 64) as u32,

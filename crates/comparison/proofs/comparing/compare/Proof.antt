@@ -6,9 +6,9 @@ use native.Mathlib.Omega.{arith}
 use mathlib.Core.Path.{refl}
 use lib.ListN.{length}
 use denote.Ref.{now}
-use Rattle.comparison.specs.Call.{resultOf}
-use Rattle.comparison.specs.declared.Answer.the-variants.{Compared, Refused}
-use Rattle.comparison.proofs.ClauseLaws.{Passed, pair-passes, pass-fits, pass-said, refusal-said, clauses-said, cleared}
+use Rattle.comparison_types.specs.Call.{resultOf}
+use Rattle.comparison_types.specs.declared.Answer.the-variants.{Compared, Refused}
+use Rattle.comparison_types.proofs.ClauseLaws.{Passed, pair-passes, pass-fits, pass-said, refusal-said, clauses-said, cleared}
 use Rattle.comparison.proofs.comparing.compare.Statement.{statement}
 use Rattle.comparison.proofs.comparing.compare.Tie as tie
 

@@ -5,11 +5,11 @@ use borrow.Author.Needs.{needs}
 use mathlib.Core.Path.{_∙_}
 use native.Mathlib.Omega.{arith}
 use denote.Ref.{now}
-use Rattle.phase_sum.specs.Unmerged.{gatesIn}
-use Rattle.comparison.proofs.ClauseLaws.{built-begins, built-kept, begun-qubits, begun-sum, begun-sized, decided}
+use Rattle.phase_sum_terms.specs.Unmerged.{gatesIn}
+use Rattle.comparison_types.proofs.ClauseLaws.{built-begins, built-kept, begun-qubits, begun-sum, begun-sized, decided}
 use Rattle.comparison.proofs.comparing.decide.Statement.{statement}
 use Rattle.comparison.proofs.comparing.decide.Tie as tie
-use Rattle.comparison.proofs.Sizing.{kept-both}
+use Rattle.comparison_types.proofs.Sizing.{kept-both}
 
 build-requires : tie.Need-build-requires
 build-requires c κs = search needs

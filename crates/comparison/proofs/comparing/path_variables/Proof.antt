@@ -5,7 +5,7 @@ use Prim.Native.Nat.{_-_, _≤_}
 use mathlib.Core.Path.{_≡_}
 use native.Mathlib.Omega.{arith}
 use borrow.Author.Needs.{needs}
-use Rattle.comparison.proofs.VerdictLaws.{Window, window-empty, window-more, members-window}
+use Rattle.comparison_types.proofs.VerdictLaws.{Window, window-empty, window-more, members-window}
 use Rattle.comparison.proofs.comparing.path_variables.Statement.{statement}
 use Rattle.comparison.proofs.comparing.path_variables.Tie as tie
 

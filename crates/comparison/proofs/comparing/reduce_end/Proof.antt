@@ -4,10 +4,10 @@ use mathlib.Core.Path.{refl, sym, ap}
 use mathlib.Core.Bool.{Bool}
 use denote.Ref.{now}
 use borrow.Author.Needs.{needs}
-use Rattle.phase_sum.specs.Workspace.{parityOf}
-use Rattle.decision.specs.Reduction.{reduceEnd}
-use Rattle.comparison.specs.Inner.{endOf, blockedBy}
-use Rattle.comparison.proofs.VerdictLaws.{reduce-blocked}
+use Rattle.phase_sum_terms.specs.Workspace.{parityOf}
+use Rattle.comparison_meaning.specs.Reduction.{reduceEnd}
+use Rattle.comparison_types.specs.Inner.{endOf, blockedBy}
+use Rattle.comparison_types.proofs.VerdictLaws.{reduce-blocked}
 use Rattle.comparison.proofs.comparing.reduce_end.Statement.{statement}
 use Rattle.comparison.proofs.comparing.reduce_end.Tie as tie
 

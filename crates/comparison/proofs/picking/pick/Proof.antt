@@ -7,10 +7,10 @@ use mathlib.Core.Bool.{Bool, cond}
 use mathlib.Core.List.{List}
 use lib.ListN.{length}
 use borrow.Author.Needs.{needs}
-use Rattle.gate_list.specs.Gate.{Gate}
-use Rattle.decision.specs.Demands.{Accepted}
-use Rattle.comparison.specs.Call.{resultOf, saidOf, says, comparison, Choice, theFirst, theSecond, nothing, picked}
-use Rattle.comparison.proofs.PickLaws.{accepted-pair, picked-by, picked-refused, picks}
+use Rattle.record_format.specs.Gate.{Gate}
+use Rattle.comparison_meaning.specs.Demands.{Accepted}
+use Rattle.comparison_types.specs.Call.{resultOf, saidOf, says, comparison, Choice, theFirst, theSecond, nothing, picked}
+use Rattle.comparison_types.proofs.PickLaws.{accepted-pair, picked-by, picked-refused, picks}
 use Rattle.comparison.proofs.picking.pick.Statement.{statement}
 use Rattle.comparison.proofs.picking.pick.Tie as tie
 

@@ -6,11 +6,11 @@ use Prim.Native.Nat.{ℕ, _<_}
 use mathlib.Core.List.{List}
 use borrow.Author.Needs.{needs}
 use native.Mathlib.Omega.{arith}
-use Rattle.gate_list.specs.Gate.{Gate}
-use Rattle.gate_list.specs.Reading.{accepted, read}
+use Rattle.record_format.specs.Gate.{Gate}
+use Rattle.record_format.specs.Reading.{accepted, read}
 use Rattle.amplitude.specs.Circuit.{tGates}
-use Rattle.comparison.proofs.PairLaws.{part-is}
-use Rattle.comparison.proofs.PickLaws.{part-length, better-fewer, better-more, better-shorter}
+use Rattle.comparison_types.proofs.PairLaws.{part-is}
+use Rattle.comparison_types.proofs.PickLaws.{part-length, better-fewer, better-more, better-shorter}
 use Rattle.comparison.proofs.picking.second_is_better.Statement.{statement}
 use Rattle.comparison.proofs.picking.second_is_better.Tie as tie
 

@@ -4,7 +4,7 @@ use mathlib.Core.Path.{refl}
 use lib.ListN.{length-take}
 use borrow.Author.Needs.{needs}
 use native.Mathlib.Omega.{arith}
-use Rattle.comparison.proofs.PickLaws.{own-size}
+use Rattle.comparison_types.proofs.PickLaws.{own-size}
 use Rattle.comparison.proofs.picking.whole.Statement.{statement}
 use Rattle.comparison.proofs.picking.whole.Tie as tie
 

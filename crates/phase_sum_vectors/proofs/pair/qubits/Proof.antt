@@ -2,8 +2,8 @@
 -- Assumes nothing.
 use mathlib.Core.Path.{ap, sym, _∙_}
 use native.Mathlib.Omega.{arith}
-use Rattle.gate_list.specs.Answer.{checkedAnswer}
-use Rattle.phase_sum.proofs.Acceptance.{accepted-by-check}
+use Rattle.record_format.specs.Answer.{checkedAnswer}
+use Rattle.phase_sum_terms.proofs.Acceptance.{accepted-by-check}
 use borrow.Author.Needs.{needs}
 use Rattle.phase_sum_vectors.proofs.pair.qubits.Statement.{statement}
 use Rattle.phase_sum_vectors.proofs.pair.qubits.Tie as tie

@@ -5,10 +5,10 @@ use mathlib.Core.Path.{_≡_}
 use Prim.Native.Nat.{_+_, _≤_}
 use native.Mathlib.Omega.{arith}
 use borrow.Author.Tests.{not-false}
-use Rattle.gate_list.specs.Reading.{accepted, read}
+use Rattle.record_format.specs.Reading.{accepted, read}
 use Rattle.amplitude.specs.Circuit.{hGates}
-use Rattle.path_sum.specs.Room.{mostVariables}
-use Rattle.phase_sum.proofs.Acceptance.{gates-of-part, buildable}
+use Rattle.phase_sum_meaning.specs.Room.{mostVariables}
+use Rattle.phase_sum_terms.proofs.Acceptance.{gates-of-part, buildable}
 use borrow.Author.Needs.{needs}
 use Rattle.phase_sum_vectors.proofs.pair.sum_of.Statement.{statement}
 use Rattle.phase_sum_vectors.proofs.pair.sum_of.Tie as tie

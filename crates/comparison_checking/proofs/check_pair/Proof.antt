@@ -1,0 +1,80 @@
+-- `comparison::pair::check_pair` meets its contract: what `check` answered says how each list reads, and for two accepted lists
+-- `check_sizes` decides.
+-- Assumes nothing.
+use borrow.Author.Needs.{needs}
+use Rattle.comparison_types.specs.Inner.{AcceptedOn}
+use Rattle.comparison_types.proofs.PairLaws.{accepted-on, refused-by, not-good, first-refused, second-refused}
+use Rattle.comparison_checking.proofs.check_pair.Statement.{statement}
+use Rattle.comparison_checking.proofs.check_pair.Tie as tie
+
+-- the first list is accepted
+first-accepted : (c : tie.After-n) → AcceptedOn (c .n .given .0 .0) (c .before .before .before .before .before .args .first .now)
+first-accepted c = accepted-on _ _ _ _ (c .before .before .check .ensures) (c .n .given .1)
+
+-- and so is the second
+second-accepted : (c : tie.After-m)
+    → AcceptedOn (c .m .given .0 .0) (c .before .before .before .before .before .before .before .before .before .args .second .now)
+second-accepted c = accepted-on _ _ _ _ (c .before .before .check2 .ensures) (c .m .given .1)
+
+check-requires : tie.Need-check-requires
+check-requires c κs = search needs
+
+enum-known-refusal : tie.Need-enum-known-refusal
+enum-known-refusal c = search needs
+
+enum-known-n : tie.Need-enum-known-n
+enum-known-n c = search needs
+
+check-requires-2 : tie.Need-check-requires-2
+check-requires-2 c κs = search needs
+
+enum-known-refusal-2 : tie.Need-enum-known-refusal-2
+enum-known-refusal-2 c = search needs
+
+enum-known-m : tie.Need-enum-known-m
+enum-known-m c = search needs
+
+check-sizes-requires : tie.Need-check-sizes-requires
+check-sizes-requires c κs = (first-accepted (c .before .before .before .before .before), second-accepted (c .before))
+
+returns : tie.Need-returns
+returns c =
+    let start = c .before .before .before .before .before .before in
+    let (f, reads, same) =
+    refused-by (start .args .first .now) _ _ (c .before .before .before .check .ensures) (c .before .refusal .given .1) in
+    (first-refused (start .args .first .now) (start .args .second .now) _ _ _ f reads same, λ n h. not-good _ n h)
+
+returns-2 : tie.Need-returns-2
+returns-2 c =
+    let start = c .before .before .before .before .before .before .before .before .before .before in
+    let (f, reads, same) =
+    refused-by (start .args .second .now) _ _ (c .before .before .before .check2 .ensures) (c .before .refusal2 .given .1) in (
+      second-refused (start .args .first .now) (start .args .second .now) _ _ _ _ f
+          (first-accepted (c .before .before .before .before .before))
+          reads
+          same,
+      λ n h. not-good _ n h,
+    )
+
+returns-3 : tie.Need-returns-3
+returns-3 c = (
+  c .check-sizes .ensures .0,
+  λ n h.
+      let (is-n, is-m) = c .check-sizes .ensures .1 n h in
+      (rw is-n (first-accepted (c .before .before .before .before .before .before)), rw is-m (second-accepted (c .before .before))),
+)
+
+pub check-pair-spec : {M : Type 1} → statement M
+check-pair-spec =
+    tie.close
+    (tie.spec
+    check-requires
+    enum-known-refusal
+    enum-known-n
+    check-requires-2
+    enum-known-refusal-2
+    enum-known-m
+    check-sizes-requires
+    returns
+    returns-2
+    returns-3)

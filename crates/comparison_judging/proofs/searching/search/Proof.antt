@@ -1,0 +1,52 @@
+-- `comparison::searching::search` meets its contract: the answer is that of the first weight that has one; where no coefficient is odd and
+-- no input of weight 1 or 2 differs, none of weight 3 does.
+-- Assumes nothing.
+use native.Mathlib.Omega.{arith}
+use borrow.Author.Needs.{needs}
+use Rattle.comparison_types.proofs.SearchLaws.{first-of-one, first-of-two, first-of-three, first-of-none}
+use Rattle.comparison_judging.proofs.searching.search.Statement.{statement}
+use Rattle.comparison_judging.proofs.searching.search.Tie as tie
+
+weight-one-requires : tie.Need-weight-one-requires
+weight-one-requires c κs = search needs
+
+returns : tie.Need-returns
+returns c = first-of-one _ _ _ (c .before .weight-one .ensures) (c .if1 .taken)
+
+weight-two-requires : tie.Need-weight-two-requires
+weight-two-requires c κs = search needs
+
+returns-2 : tie.Need-returns-2
+returns-2 c =
+    first-of-two _ _ _ (c .before .before .before .weight-one .ensures) (omega arith) _ (c .before .weight-two .ensures) (c .if2 .taken)
+
+odd-mask-requires : tie.Need-odd-mask-requires
+odd-mask-requires c κs = search needs
+
+returns-3 : tie.Need-returns-3
+returns-3 c =
+    first-of-none _ _ _ (c .before .before .before .before .before .weight-one .ensures) (omega arith) _
+    (c .before .before .before .weight-two .ensures) (omega arith) _
+    (c .if3 .taken) (c .before .odd-mask .ensures)
+
+weight-three-requires : tie.Need-weight-three-requires
+weight-three-requires c κs = search needs
+
+returns-4 : tie.Need-returns-4
+returns-4 c =
+    first-of-three _ _ _ (c .before .before .before .before .before .before .weight-one .ensures) (omega arith) _
+    (c .before .before .before .before .weight-two .ensures) (omega arith) _
+    (c .weight-three .ensures)
+
+pub search-spec : {M : Type 1} → statement M
+search-spec =
+    tie.close
+    (tie.spec
+    weight-one-requires
+    returns
+    weight-two-requires
+    returns-2
+    odd-mask-requires
+    returns-3
+    weight-three-requires
+    returns-4)

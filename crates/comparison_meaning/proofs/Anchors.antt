@@ -1,0 +1,30 @@
+-- The pairs of specs/Table.antt, proved by computation: each table jointly.
+-- Assumes nothing.
+use mathlib.Core.Path.{refl}
+use mathlib.Core.Bool.{xor}
+use Rattle.record_format.specs.Gate.{inverseKind, inverseGate, inverseList}
+use Rattle.amplitude.specs.Bits.{bit}
+use Rattle.phase_sum_meaning.specs.Sets.{_△_, xorUpTo, parityUpTo, parity, without, from, firstSuch}
+use Rattle.phase_sum_meaning.specs.Parity.{_⊕_, complement, rest, replaceIn}
+use Rattle.phase_sum_meaning.specs.Phase.{sumAt, phaseAt, keep, merge, addTerm, addConstant, addPhase, rebuild, inOdd}
+use Rattle.phase_sum_meaning.specs.Building.{input, initial, setWire, withPhase, hadamard, gate, gatesFrom, build}
+use Rattle.phase_sum_meaning.specs.Stepping.{replace, coeffs, outOf, oddHalves, takeOut, turned, kindOf}
+use Rattle.comparison_meaning.specs.Reduction.{addPin, addSum, addTurn, addJoin, pinFrom, stepWith, reduceFrom, reduceEnd}
+use Rattle.comparison_meaning.specs.Verdict.{weight, blockedInput, searched, judge, compare}
+use Rattle.comparison_meaning.specs.Table.{AllRight, rows, choices}
+
+-- the comparison gives document 01's results
+pub p-rows : AllRight rows
+unfolding xor inverseKind inverseGate inverseList bit _△_ xorUpTo parityUpTo parity firstSuch without from _⊕_ complement rest replaceIn
+    sumAt phaseAt keep merge addTerm addConstant addPhase rebuild inOdd input initial setWire withPhase hadamard gate gatesFrom build
+    replace coeffs outOf oddHalves takeOut turned kindOf addPin addSum addTurn addJoin pinFrom stepWith reduceFrom
+    reduceEnd weight blockedInput searched judge compare
+p-rows = (refl, (refl, (refl, (refl, (refl, (refl, (refl, (refl, (refl, (refl, tt))))))))))
+
+-- and makes document 01's choices
+pub choice-rows : AllRight choices
+unfolding xor inverseKind inverseGate inverseList bit _△_ xorUpTo parityUpTo parity firstSuch without from _⊕_ complement rest replaceIn sumAt
+    phaseAt keep merge addTerm addConstant addPhase rebuild inOdd input initial setWire withPhase hadamard gate gatesFrom build
+    replace coeffs outOf oddHalves takeOut turned kindOf addPin addSum addTurn addJoin pinFrom stepWith reduceFrom
+    reduceEnd weight blockedInput searched judge compare
+choice-rows = (refl, (refl, (refl, (refl, (refl, (refl, (refl, (refl, (refl, (refl, (refl, tt)))))))))))

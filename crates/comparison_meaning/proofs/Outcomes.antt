@@ -1,0 +1,172 @@
+-- How a comparison ends: what reducing makes of a pinned sum, and why the verdict falls as it does. Each is a case split, made once
+-- here, so that the theorems only go through the cases.
+-- Assumes nothing.
+use mathlib.Core.Path.{_≡_, refl, sym, _∙_}
+use mathlib.Core.Logic.{_⊎_, inl, inr}
+use mathlib.Core.Bool.{Bool, true, false}
+use mathlib.Core.List.{List, [], _∷_, cons≢nil}
+use mathlib.Core.Option.{Option, none, some, Option·some-ne-none}
+use Prim.Native.Nat.{ℕ}
+use native.Mathlib.Omega.{arith}
+use lib.Dec.{eqb}
+use lib.ListN.{length}
+use borrow.Author.Tests.{eqb-true, eqb-false, ne-eqb}
+use Rattle.phase_sum_meaning.specs.Sets.{Among}
+use Rattle.phase_sum_meaning.specs.Parity.{Parity}
+use Rattle.phase_sum_meaning.specs.Phase.{inOdd}
+use Rattle.phase_sum_meaning.proofs.Wellformed.{Good}
+use Rattle.phase_sum_meaning.proofs.Evenness.{OddIn, Inputs}
+use Rattle.comparison_meaning.specs.Reduction.{End, reduceFrom, reduceEnd}
+use Rattle.comparison_meaning.specs.Steps.{Steps, Blocked}
+use Rattle.comparison_meaning.specs.Verdict.{candidates, firstDiffering, Verdict, equal, different, undecided, Result, left, result, blockedInput, searched, judge}
+use Rattle.comparison_meaning.proofs.Reducing.{reduce-steps, reduce-stops, even-decides, reduce-blocks}
+
+-- the two ways on from a pinned sum: reduced where pinning went through, left as it is where pinning was blocked
+pub data Reduced (p : End) : End → Type 0 where
+  further : p .blockedBy ≡ none → Reduced p (reduceFrom (length (p .sum .live)) (p .sum) (p .counts))
+  halted : {q : Parity} → p .blockedBy ≡ some q → Reduced p p
+
+-- reducing goes one of them
+pub reduces : (p : End) → Reduced p (reduceEnd p)
+unfolding reduceEnd
+reduces p = go (p .blockedBy) refl
+  where
+    go :
+        (b : Option Parity)
+        → p .blockedBy ≡ b
+        → Reduced p (elim b [ none ↦ reduceFrom (length (p .sum .live)) (p .sum) (p .counts) | some q ↦ p ])
+    go none h = further h
+    go (some q) h = halted h
+
+-- either way its end is reached by steps
+pub reduced-steps : {p e : End} → Reduced p e → Steps (p .sum) (p .counts) (e .sum) (e .counts)
+reduced-steps {p} (further h) = reduce-steps (length (p .sum .live)) (p .sum) (p .counts)
+reduced-steps (halted h) = Steps.none
+
+-- an end that is not blocked comes of pinning that went through
+pub reduced-through : {p e : End} → Reduced p e → e .blockedBy ≡ none → p .blockedBy ≡ none
+reduced-through (further h) free = h
+reduced-through (halted h) free = free
+
+-- at an end that is not blocked no live variable is ready
+pub reduced-stops :
+    (n : ℕ) {p e : End}
+    → Reduced p e
+    → Good n (p .sum)
+    → e .blockedBy ≡ none
+    → (y : ℕ)
+    → Among y (e .sum .live)
+    → inOdd y (e .sum .phase .terms) ≡ true
+reduced-stops n {p} (further h) good free = reduce-stops n (length (p .sum .live)) (p .sum) (p .counts) good (omega arith) free
+reduced-stops n (halted {q} h) good free = absurd (Option·some-ne-none q (sym h ∙ free))
+
+-- at an end that a step blocks, a ready variable's step cannot be taken
+pub reduced-blocked : {p e : End} {q : Parity} → Reduced p e → p .blockedBy ≡ none → e .blockedBy ≡ some q → Blocked (e .sum) q
+reduced-blocked {p} {q} (further h) through b = reduce-blocks (length (p .sum .live)) (p .sum) (p .counts) q b
+reduced-blocked (halted {q} h) through b = absurd (Option·some-ne-none q (sym h ∙ through))
+
+-- at an end that is not blocked none is left, where every odd coefficient of the pinned sum is on inputs alone
+pub reduced-even :
+    (n : ℕ) {p e : End}
+    → Reduced p e
+    → Good n (p .sum)
+    → OddIn (Inputs n) (p .sum .phase .terms)
+    → e .blockedBy ≡ none
+    → e .sum .live ≡ []
+reduced-even n {p} (further h) good even free = even-decides n (length (p .sum .live)) (p .sum) (p .counts) good (omega arith) even free
+reduced-even n (halted {q} h) good even free = absurd (Option·some-ne-none q (sym h ∙ free))
+
+-- not blocked, and no path variable left
+abbrev pub Done : End → Type 0
+Done e = (e .blockedBy ≡ none) × (e .sum .live ≡ [])
+
+-- the reasons for a verdict on the end e with its two inputs: a parity is blocked; path variables are left; none is, and pins and
+-- sums differ, or the phase differs at an input, or it does not
+pub data Judged (scratch n : ℕ) (e : End) : Verdict → ℕ → ℕ → Type 0 where
+  blocked : {q : Parity} → e .blockedBy ≡ some q → Judged scratch n e different (blockedInput n q) (blockedInput n q)
+  unready : e .blockedBy ≡ none → (e .sum .live ≡ [] → ⊥) → Judged scratch n e undecided 0 0
+  unsized : Done e → (e .counts .pins ≡ e .counts .sums → ⊥) → Judged scratch n e different 0 0
+  found :
+      {v : ℕ}
+      → Done e
+      → e .counts .pins ≡ e .counts .sums
+      → firstDiffering (e .sum .phase) (candidates scratch n) ≡ some v
+      → Judged scratch n e different 0 v
+  same :
+      Done e
+      → e .counts .pins ≡ e .counts .sums
+      → firstDiffering (e .sum .phase) (candidates scratch n) ≡ none
+      → Judged scratch n e equal 0 0
+
+-- a result with such a verdict, and with the counts of the end
+pub data Shown (scratch n : ℕ) (e : End) : Result → Type 0 where
+  shows : {v : Verdict} {a b : ℕ} → Judged scratch n e v a b → Shown scratch n e (result v a b e)
+
+-- the verdict on an end has one of these reasons
+pub judges : (scratch n : ℕ) (e : End) → Shown scratch n e (judge scratch n e)
+unfolding judge searched
+judges scratch n e = go (e .blockedBy) refl (e .sum .live) refl
+  where
+    by : {v : Verdict} {a b : ℕ} → judge scratch n e ≡ result v a b e → Judged scratch n e v a b → Shown scratch n e (judge scratch n e)
+    by is j = rw is (shows j)
+
+    looks :
+        Done e
+        → eqb (left e) 0 ≡ true
+        → (t : Bool)
+        → eqb (e .counts .pins) (e .counts .sums) ≡ t
+        → (f : Option ℕ)
+        → firstDiffering (e .sum .phase) (candidates scratch n) ≡ f
+        → Shown scratch n e (judge scratch n e)
+    looks done z false m f d =
+        by (rw (done .0, judge, z, searched, m)) (unsized done (eqb-false (e .counts .pins) (e .counts .sums) m))
+    looks done z true m none d =
+        by (rw (done .0, judge, z, searched, m, d)) (same done (eqb-true (e .counts .pins) (e .counts .sums) m) d)
+    looks done z true m (some v) d =
+        by (rw (done .0, judge, z, searched, m, d)) (found done (eqb-true (e .counts .pins) (e .counts .sums) m) d)
+
+    go : (b : Option Parity) → e .blockedBy ≡ b → (ys : List ℕ) → e .sum .live ≡ ys → Shown scratch n e (judge scratch n e)
+    go (some q) h ys k = by (rw (h, judge)) (blocked h)
+    go none h [] k =
+        looks (h, k) (rw k) (eqb (e .counts .pins) (e .counts .sums)) refl (firstDiffering (e .sum .phase) (candidates scratch n)) refl
+    go none h (y ∷ ys) k =
+        let z : eqb (left e) 0 ≡ false = rw k (ne-eqb (length (y ∷ ys)) 0 (λ zero. omega arith)) in
+        by (rw (h, judge, z)) (unready h (λ empty. cons≢nil (sym k ∙ empty)))
+
+-- the verdict and the inputs of a shown result have their reason
+pub reason : {scratch n : ℕ} {e : End} {r : Result} → Shown scratch n e r → Judged scratch n e (r .verdict) (r .first) (r .second)
+reason (shows j) = j
+
+-- an end with path variables left, not blocked, is undecided
+pub judged-undecided :
+    {scratch n : ℕ} {e : End} {v : Verdict} {a b : ℕ}
+    → Judged scratch n e v a b
+    → e .blockedBy ≡ none
+    → (e .sum .live ≡ [] → ⊥)
+    → v ≡ undecided
+judged-undecided (blocked {q} h) free some-left = absurd (Option·some-ne-none q (sym h ∙ free))
+judged-undecided (unready h left) free some-left = refl
+judged-undecided (unsized done unequal) free some-left = absurd (some-left (done .1))
+judged-undecided (found done sized differs) free some-left = absurd (some-left (done .1))
+judged-undecided (same done sized none-found) free some-left = absurd (some-left (done .1))
+
+-- an end with none left, unless blocked, is equal or different
+pub judged-decided :
+    {scratch n : ℕ} {e : End} {v : Verdict} {a b : ℕ}
+    → Judged scratch n e v a b
+    → (e .blockedBy ≡ none → e .sum .live ≡ [])
+    → (v ≡ equal) ⊎ (v ≡ different)
+judged-decided (blocked h) none-left = inr refl
+judged-decided (unready h some-left) none-left = absurd (some-left (none-left h))
+judged-decided (unsized done unequal) none-left = inr refl
+judged-decided (found done sized differs) none-left = inr refl
+judged-decided (same done sized none-found) none-left = inl refl
+
+-- the inputs are 0 and 0 unless the verdict is different
+pub judged-inputs :
+    {scratch n : ℕ} {e : End} {v : Verdict} {a b : ℕ} → Judged scratch n e v a b → (v ≡ different → ⊥) → (a ≡ 0) × (b ≡ 0)
+judged-inputs (blocked h) other = absurd (other refl)
+judged-inputs (unready h some-left) other = (refl, refl)
+judged-inputs (unsized done unequal) other = absurd (other refl)
+judged-inputs (found done sized differs) other = absurd (other refl)
+judged-inputs (same done sized none-found) other = (refl, refl)

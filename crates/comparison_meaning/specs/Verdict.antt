@@ -1,0 +1,102 @@
+-- The search over inputs of weight up to 3, the verdict, its two inputs and the counts: document 01, "Reducing it".
+-- Assumes nothing.
+use Prim.Native.Nat.{ℕ, zero, suc, _+_, _%_, _^_}
+use mathlib.Core.Bool.{true, false, cond, not}
+use mathlib.Core.List.{List, [], _∷_, _++_, map}
+use mathlib.Core.Option.{Option, none, some}
+use lib.ListN.{length}
+use lib.Dec.{eqb}
+use Rattle.record_format.specs.Gate.{Gate, inverseList}
+use Rattle.amplitude.specs.Bits.{bit}
+use Rattle.phase_sum_meaning.specs.Sets.{firstIn, from, firstSuch}
+use Rattle.phase_sum_meaning.specs.Parity.{Parity}
+use Rattle.phase_sum_meaning.specs.Phase.{Phase, phaseAt}
+use Rattle.phase_sum_meaning.specs.Building.{build}
+use Rattle.comparison_meaning.specs.Reduction.{End, pinned, reduceEnd}
+
+-- the inputs below 2^n of weight k, with zeros at the scratch qubits, lower numbers first
+unfoldable pub weight : ℕ → ℕ → ℕ → List ℕ
+weight scratch zero n = 0 ∷ []
+weight scratch (suc k) zero = []
+weight scratch (suc k) (suc n) =
+    weight scratch (suc k) n ++ cond (bit n scratch) [] (map (λ v. 2 ^ n + v) (weight scratch k n))
+
+-- the inputs that the search looks at, in its order
+abbrev pub candidates : ℕ → ℕ → List ℕ
+candidates scratch n = weight scratch 1 n ++ weight scratch 2 n ++ weight scratch 3 n
+
+-- the first input of a list whose phase differs from that of input 0
+abbrev pub firstDiffering : Phase → List ℕ → Option ℕ
+firstDiffering φ vs = firstSuch (λ v. not (eqb (phaseAt φ v % 8) (phaseAt φ 0 % 8))) vs
+
+-- the three verdicts
+pub data Verdict : Type 0 where
+  equal different undecided : Verdict
+
+-- what the comparison returns: the verdict, its two inputs and the five counts
+pub record Result : Type 0 where
+  pub verdict : Verdict
+  pub first : ℕ
+  pub second : ℕ
+  pub pins : ℕ
+  pub sums : ℕ
+  pub turns : ℕ
+  pub joins : ℕ
+  pub left : ℕ
+
+-- document 01's left: the path variables that no pin or join has replaced and no sum, turn or join has taken out
+abbrev pub left : End → ℕ
+left e = length (e .sum .live)
+
+-- a result by its verdict and inputs, with the counts of the end
+abbrev pub result : Verdict → ℕ → ℕ → End → Result
+result v a b e =
+    record {
+      verdict = v;
+      first = a;
+      second = b;
+      pins = e .counts .pins;
+      sums = e .counts .sums;
+      turns = e .counts .turns;
+      joins = e .counts .joins;
+      left = left e;
+    }
+
+-- an input that makes a blocked parity 1: 0 if its constant is 1, else the input holding only its lowest qubit
+unfoldable pub blockedInput : ℕ → Parity → ℕ
+blockedInput n q = cond (q .flipped) 0 (elim (firstIn (from 0 n) (q .vars)) [ none ↦ 0 | some v ↦ 2 ^ v ])
+
+-- no path variable is left: the search decides, unless pins and sums differ
+unfoldable pub searched : ℕ → ℕ → End → Result
+searched scratch n e =
+    elim (eqb (e .counts .pins) (e .counts .sums)) [
+      | false ↦ result different 0 0 e
+      | true ↦ elim (firstDiffering (e .sum .phase) (candidates scratch n)) [
+        | some v ↦ result different 0 v e
+        | none ↦ result equal 0 0 e
+      ]
+    ]
+
+-- the verdict on where the reduction ended
+unfoldable pub judge : ℕ → ℕ → End → Result
+judge scratch n e =
+    elim (e .blockedBy) [
+      | some q ↦ result different (blockedInput n q) (blockedInput n q) e
+      | none ↦ elim (eqb (left e) 0) [ true ↦ searched scratch n e | false ↦ result undecided 0 0 e ]
+    ]
+
+-- first list, then the second backwards with S and T exchanged for their inverses
+abbrev pub joined : List Gate → List Gate → List Gate
+joined first second = first ++ inverseList second
+
+-- where pinning the sum of a pair ends
+abbrev pub pinnedOf : ℕ → ℕ → List Gate → List Gate → End
+pinnedOf scratch n first second = pinned scratch n (build scratch n (joined first second))
+
+-- where the reduction of a pair ends
+abbrev pub endOf : ℕ → ℕ → List Gate → List Gate → End
+endOf scratch n first second = reduceEnd (pinnedOf scratch n first second)
+
+-- the comparison of two lists on n qubits
+unfoldable pub compare : ℕ → ℕ → List Gate → List Gate → Result
+compare scratch n first second = judge scratch n (endOf scratch n first second)

@@ -1,0 +1,267 @@
+-- Laws behind `decide` and `compare`: the built sum of a pair is ready to be pinned, the parts of the comparison chain to its
+-- definition, and the contract's clauses on the answer follow from the demands.
+-- Assumes nothing.
+use mathlib.Core.Path.{_≡_, refl, sym, ap, _∙_}
+use mathlib.Core.Logic.{⊎-map}
+use Prim.Native.Nat.{ℕ, _+_, _≤_}
+use native.Mathlib.Nat.{sub-zero}
+use native.Mathlib.Omega.{arith}
+use mathlib.Core.Bool.{Bool, true, false, _||_}
+use mathlib.Core.Option.{Option, none, some}
+use mathlib.Core.List.{List, [], _++_}
+use lib.ListN.{length, drop, replicate}
+use lib.Dec.{ltb}
+use borrow.Author.Tests.{ltb-false}
+use Rattle.record_format.specs.Gate.{Gate, inverseList}
+use Rattle.record_format.specs.Row.{Fault}
+use Rattle.record_format.specs.Reading.{accepted, read}
+use Rattle.record_format.specs.Writing.{gatePart}
+use Rattle.record_format.proofs.Rows.{none-holds}
+use Rattle.amplitude.specs.Circuit.{tally, isH, hGates}
+use Rattle.amplitude.proofs.Linear.{tally-append, hGates-inverse}
+use Rattle.phase_sum_meaning.specs.Phase.{minus}
+use Rattle.phase_sum_meaning.specs.Building.{PathSum, initial, build}
+use Rattle.phase_sum_meaning.specs.Room.{roomFor, room, mostVariables, places}
+use Rattle.phase_sum_meaning.proofs.Wellformed.{live-build-from, live-build}
+use Rattle.phase_sum_meaning.proofs.Roominess.{room-build, tally-inverse-room}
+use Rattle.phase_sum_terms.specs.Workspace.{over, Stored}
+use Rattle.phase_sum_terms.specs.Unmerged.{gatesIn, appended, Buildable, Shows}
+use Rattle.phase_sum_terms.specs.declared.Sum.{Sum}
+use Rattle.phase_sum_terms.proofs.Storing.{over-padded, stored-behind}
+use Rattle.phase_sum_terms.proofs.Acceptance.{gates-of-part, buildable}
+use Rattle.comparison_meaning.specs.Reduction as reduction
+use Rattle.comparison_meaning.specs.Reduction.{pinned, reduceEnd}
+use Rattle.comparison_meaning.specs.Verdict as verdict
+use Rattle.comparison_meaning.specs.Verdict.{Result, equal, different, undecided, joined, judge, compare}
+use Rattle.comparison_meaning.specs.Demands.{Accepted, Demands, SomePower, ReachedBySteps, DifferentIsRight, UndecidedIsStuck, CliffordIsDecided, CountsAddUp, end}
+use Rattle.comparison_meaning.proofs.Bytes.{demands-pair, room-fits-pair}
+use Rattle.comparison_types.specs.Call.{Said, says, refuses, numberOf, verdictOf, resultOf, saidOf, pairRows, pairFault, compareRead, unlessFault, comparison, leftBy}
+use Rattle.comparison_types.specs.Clauses.{ForResult, Sound, Stops, Clifford, CountsUp}
+use Rattle.comparison_types.specs.Inner.{members, sumOf, sumBuilt, Sized, Kept, AcceptedOn, numberIn, pairNumber}
+use Rattle.comparison_types.specs.declared.Verdict.{Verdict}
+use Rattle.comparison_types.specs.declared.Verdict.the-variants.{Equal, Different, Undecided}
+use Rattle.comparison_types.specs.declared.Outcome.{Outcome}
+use Rattle.comparison_types.specs.declared.Refusal.{Refusal}
+use Rattle.comparison_types.specs.declared.Answer.{Answer}
+use Rattle.comparison_types.specs.declared.Answer.the-variants.{Compared}
+use Rattle.comparison_types.specs.declared.State.{State}
+use Rattle.comparison_types.specs.declared.PairCheck.{PairCheck}
+use Rattle.comparison_types.specs.declared.PairCheck.the-variants.{Good}
+use Rattle.phase_sum_terms.proofs.Running.{terms-gates, shows-sum}
+
+-- the sum that was built of two lists
+module _
+    {n : ℕ} (gs hs : List Gate) {r : Sum} {ss cs ss₁ cs₁ : List ℕ}
+    (shows : Shows (build 0 n (joined gs hs)) n (appended n (joined gs hs)) r ss cs ss₁ cs₁)
+  where
+    -- as many variables left as both lists have H gates
+    built-live : length (build 0 n (joined gs hs) .live) ≡ hGates gs + hGates hs
+    built-live = live-build 0 n (joined gs hs) ∙ tally-append isH gs (inverseList hs) ∙ rw (hGates-inverse hs)
+
+    -- the room of both lists
+    built-room : tally roomFor (joined gs hs) ≡ room gs hs
+    built-room = tally-append roomFor gs (inverseList hs) ∙ rw (tally-inverse-room hs)
+
+    -- it stands for the path sum of both lists
+    built-sum : sumBuilt r ss₁ cs₁ ≡ build 0 n (joined gs hs)
+    built-sum = shows-sum shows (hGates (joined gs hs)) (live-build-from 0 n (joined gs hs))
+
+    -- it can be begun
+    pub built-begins : n ≤ 16 → n + (hGates gs + hGates hs) ≤ mostVariables → (r .n ≤ 16) × (r .n ≤ r .next) × (r .next ≤ 64)
+    built-begins few variables =
+        (omega (arith, shows .qubits), omega (arith, shows .qubits, shows .next), omega (arith, shows .next, built-live))
+
+    -- with room in the first places, nothing changed behind them
+    pub built-kept : room gs hs ≤ places → Kept ss cs ss₁ cs₁
+    unfolding initial
+    built-kept fits =
+        let terms = room-build 0 n (joined gs hs) in
+        let behind =
+        stored-behind places (shows .terms) (omega (arith, terms-gates n (joined gs hs) (initial 0 n) .1, built-room))
+        (omega (arith, built-room))
+        in
+        record { sets = behind .0; coeffs = behind .1 }
+
+    -- a state that was begun with it
+    module _ (s : State) (same : sumOf s ss₁ cs₁ ≡ sumBuilt r ss₁ cs₁) (qubits : s .n ≡ r .n) (phase : s .phase ≡ r .phase) where
+      -- it has their qubits
+      pub begun-qubits : s .n ≡ n
+      begun-qubits = qubits ∙ shows .qubits
+
+      -- that is its sum
+      pub begun-sum : sumOf s ss₁ cs₁ ≡ build 0 n (joined gs hs)
+      begun-sum = same ∙ built-sum
+
+      -- it is sized
+      pub begun-sized : n ≤ 16 → room gs hs ≤ places → places ≤ length ss₁ → places ≤ length cs₁ → Sized s ss₁ cs₁
+      begun-sized few fits sets coeffs =
+          let count : s .phase .count ≡ length (build 0 n (joined gs hs) .phase .terms) =
+          ap (λ p. p .count) phase ∙ shows .terms .counted
+          in
+          let live : length (members (s .live)) ≡ length (build 0 n (joined gs hs) .live) = ap (λ t. length (t .live)) begun-sum in
+          record {
+            few = omega (arith, begun-qubits);
+            room = omega (arith, count, live, room-build 0 n (joined gs hs), built-room);
+            sets = sets;
+            coeffs = coeffs;
+          }
+
+-- building, pinning, reducing and judging one after the other, each on as many qubits, is the comparison
+pub decided :
+    (n : ℕ) (gs hs : List Gate) {k l m : ℕ} {u : PathSum} {p e : reduction.End} {o : Result} →
+    k ≡ n →
+    u ≡ build 0 n (joined gs hs) →
+    l ≡ k →
+    p ≡ pinned 0 k u →
+    m ≡ l →
+    e ≡ reduceEnd p →
+    o ≡ judge 0 m e →
+    o ≡ compare 0 n gs hs
+unfolding compare
+decided n gs hs on built on′ pins on″ reduces judges = rw (judges, reduces, pins, built, on″, on′, on)
+
+-- where the checks find no number, no row of the table holds
+no-fault : (o : Option Fault) → none ≡ numberIn o → o ≡ none
+no-fault none e = refl
+no-fault (some f) e = let z : _≡_ {A = ℕ} 0 1 = cc in absurd (omega arith)
+
+-- where they find one, the call is refused with it
+number-said : (k : ℕ) (o : Option Fault) (said : Said) → some k ≡ numberIn o → refuses k ≡ unlessFault o said
+number-said k none said e = let z : _≡_ {A = ℕ} 0 1 = cc in absurd (omega arith)
+number-said k (some f) said e = cc
+
+-- where the checks answer a refusal, that is said of the pair
+pub refusal-said :
+    (s t : List ℕ) (w c : ℕ) {k : Refusal} {r : PairCheck} →
+    pairNumber r ≡ numberIn (pairFault (read s) (read t) w c) →
+    r ≡ PairCheck.Refused k →
+    refuses (numberOf k) ≡ comparison s t w c
+refusal-said s t w c {k} number refused =
+    let fault = pairFault (read s) (read t) w c in
+    number-said (numberOf k) fault (compareRead (read s) (read t)) (sym (ap pairNumber refused) ∙ number)
+
+-- a pair that the checks let pass: two accepted records on n qubits with at most 64 variables, and workspaces with all their places
+pub record Passed (s t ss cs : List ℕ) (n : ℕ) : Type 0 where
+  pub gs : List Gate
+  pub hs : List Gate
+  pub pair : Accepted s t n gs hs
+  pub variables : n + (hGates gs + hGates hs) ≤ mostVariables
+  pub sets : places ≤ length ss
+  pub coeffs : places ≤ length cs
+  pub said : comparison s t (length ss) (length cs) ≡ says (compare 0 n gs hs)
+
+-- two conditions of which neither holds
+neither : (a b : Bool) → (a || b) ≡ false → (a ≡ false) × (b ≡ false)
+neither true b e = let z : _≡_ {A = ℕ} 0 1 = cc in absurd (omega arith)
+neither false b e = (refl, e)
+
+-- where the checks answer n, the pair passes
+pub pair-passes :
+    (s t ss cs : List ℕ) {n : ℕ} {r : PairCheck} →
+    pairNumber r ≡ numberIn (pairFault (read s) (read t) (length ss) (length cs)) →
+    ((k : ℕ) → r ≡ Good k → AcceptedOn k s × AcceptedOn k t) →
+    r ≡ Good n →
+    Passed s t ss cs n
+unfolding pairFault compareRead
+pair-passes s t ss cs {n} number qubits good =
+    let ((gs, reads), (hs, reads′)) = qubits n good in
+    let fault = no-fault (pairFault (read s) (read t) (length ss) (length cs)) (sym (ap pairNumber good) ∙ number) in
+    let rows = none-holds (pairRows n n gs hs (length ss) (length cs)) .0 (rw (reads, reads′) at fault) in
+    let sizes = neither (ltb (length ss) places) (ltb (length cs) places) (rows .1 .1 .0) in
+    record {
+      gs = gs;
+      hs = hs;
+      pair = record { reads-first = reads; reads-second = reads′ };
+      variables = ltb-false mostVariables (n + (hGates gs + hGates hs)) (rows .1 .0);
+      sets = ltb-false (length ss) places (sizes .0);
+      coeffs = ltb-false (length cs) places (sizes .1);
+      said = rw (fault, reads, reads′);
+    }
+
+-- the gate parts of a pair that passes
+module _
+    {s t ss cs : List ℕ} {n : ℕ} (pass : Passed s t ss cs n)
+    {part part′ : List ℕ} (is : part ≡ gatePart s (read s)) (is′ : part′ ≡ gatePart t (read t))
+  where
+    -- the first stands for the first list's gates
+    gates-first : gatesIn part ≡ pass .gs
+    gates-first = rw is (gates-of-part s n (pass .gs) (pass .pair .reads-first))
+
+    -- the second for the second's
+    gates-second : gatesIn part′ ≡ pass .hs
+    gates-second = rw is′ (gates-of-part t n (pass .hs) (pass .pair .reads-second))
+
+    -- they can be built, and have room in the first places
+    pub pass-fits : Buildable n part part′ ss cs × (room (gatesIn part) (gatesIn part′) ≤ places)
+    pass-fits =
+        let pair = pass .pair in
+        let built = buildable s t n (pass .gs) (pass .hs) ss cs (pair .reads-first) (pair .reads-second) in (
+          rw (is, is′) (built (pass .variables) (pass .sets) (pass .coeffs)),
+          rw (gates-first, gates-second) (room-fits-pair s t n (pass .gs) (pass .hs) pair (pass .variables)),
+        )
+
+    -- comparing them gives what is said of the pair
+    pub pass-said : {o : Result} → o ≡ compare 0 n (gatesIn part) (gatesIn part′) → says o ≡ comparison s t (length ss) (length cs)
+    pass-said {o} e = ap says (rw (gates-first, gates-second) at e) ∙ sym (pass .said)
+
+-- the clauses of an answer that says what the comparison of two records says
+module _ (s t : List ℕ) (w c : ℕ) (a : Answer) (said : saidOf a ≡ comparison s t w c) where
+  -- the outcome of two accepted records is the result for their gates
+  outcome-is :
+      (n : ℕ) (first second : List Gate) (o : Outcome) →
+      Accepted s t n first second →
+      a ≡ Compared o →
+      resultOf o ≡ compare 0 n first second
+  unfolding compareRead
+  outcome-is n first second o pair is =
+      go (resultOf o) (compare 0 n first second) (pairFault (accepted n first) (accepted n second) w c)
+      (rw (pair .reads-first, pair .reads-second) at (sym (ap saidOf is) ∙ said))
+    where
+      go : (x y : Result) (f : Option Fault) → says x ≡ unlessFault f (says y) → x ≡ y
+      go x y none e = cc
+      go x y (some f) e = let z : _≡_ {A = ℕ} 0 1 = cc in absurd (omega arith)
+
+  -- so what holds of that result holds of the outcome
+  holds :
+      (P : ℕ → List Gate → List Gate → Result → Type 0) →
+      ((n : ℕ) (first second : List Gate) → Demands n first second → P n first second (compare 0 n first second)) →
+      ForResult s t a P
+  holds P proof n first second o pair is =
+      rw (outcome-is n first second o pair is) (proof n first second (demands-pair s t n first second pair))
+
+  -- equal and different are said only where that is right
+  sound-said : Sound s t a
+  sound-said =
+      holds (λ n first second r. (r .verdict ≡ equal → SomePower n first second) × DifferentIsRight n first second r)
+      (λ n first second d. (λ h. (minus (end n first second .sum .phase .constant), omega arith, d .equal-is-right h), d .different-is-right))
+
+  -- undecided is said exactly where the steps stop
+  stops-said : Stops s t a
+  stops-said =
+      holds (λ n first second r. ReachedBySteps n first second × UndecidedIsStuck n first second r)
+      (λ n first second d. (d .reached-by-steps, d .undecided-is-stuck))
+
+  -- lists without T are decided
+  clifford-said : Clifford s t a
+  clifford-said = holds (λ n first second r. CliffordIsDecided n first second r) (λ n first second d. d .clifford-is-decided)
+
+  -- the counts add up
+  counts-said : CountsUp s t a
+  counts-said = holds (λ n first second r. CountsAddUp n first second r) (λ n first second d. d .counts-add-up)
+
+  -- all four clauses
+  pub clauses-said : Sound s t a × (Stops s t a × (Clifford s t a × CountsUp s t a))
+  clauses-said = (sound-said, (stops-said, (clifford-said, counts-said)))
+
+-- zeros over the first m places of a list that is another behind them
+zeros-over : (m : ℕ) (old new : List ℕ) → drop m new ≡ drop m old → over m [] new ≡ replicate m 0 ++ drop m old
+zeros-over m old new e = over-padded m [] new (omega arith) ∙ rw (sub-zero, e)
+
+-- what a comparison leaves that changed nothing behind the first places and then cleared these
+pub cleared :
+    (o : Result) {ss cs ss₁ cs₁ ss₂ cs₂ : List ℕ} →
+    Kept ss cs ss₁ cs₁ →
+    Stored places [] 0 ss₁ cs₁ ss₂ cs₂ →
+    (ss₂ ≡ leftBy (says o) ss) × (cs₂ ≡ leftBy (says o) cs)
+cleared o {ss} {cs} {ss₁} {cs₁} kept stored =
+    (stored .sets ∙ zeros-over places ss ss₁ (kept .sets), stored .coeffs ∙ zeros-over places cs cs₁ (kept .coeffs))

@@ -1,0 +1,258 @@
+-- What the pick rests on: the sizes of an accepted record, that its own bytes read back as the record, which list the pick takes, and
+-- that the part it hands back is right.
+-- Assumes nothing.
+use mathlib.Core.Path.{_≡_, refl, sym, ap, _∙_}
+use Prim.Native.Nat.{ℕ, _+_, _*_, _<_, _≤_}
+use native.Mathlib.Omega.{arith}
+use mathlib.Core.Bool.{Bool, true, false, cond, _&&_, _||_, and-eq-true-iff}
+use mathlib.Core.List.{List, []}
+use lib.ListN.{length, getD, take, drop, length-take, length-drop}
+use lib.Seq.{getD-take, take-take, take-add, drop-at}
+use lib.Dec.{ltb, eqb}
+use borrow.Author.Tests.{ltb-true, ltb-false, lt-ltb, le-ltb, eqb-true, eq-eqb, ne-eqb}
+use Rattle.record_format.specs.Gate.{Gate}
+use Rattle.record_format.specs.Row.{first}
+use Rattle.record_format.specs.Reading.{Reading, accepted, refused, read, count, size, body, recordRows}
+use Rattle.record_format.specs.Writing.{gatePart}
+use Rattle.record_format.specs.declared.Checked.the-variants as checked
+use Rattle.record_format.proofs.Reading.{Accepts, accepts}
+use Rattle.amplitude.specs.Number.{√2^}
+use Rattle.amplitude.specs.Circuit.{hGates, tGates, column}
+use Rattle.amplitude.proofs.Linear.{ω^-zero}
+use Rattle.comparison_meaning.specs.Demands.{Accepted, SomePower}
+use Rattle.comparison_meaning.specs.Verdict.{Result}
+use Rattle.comparison_types.specs.Call.{numberOf, Said, says, refuses, verdictOf, resultOf, saidOf, pairFault, compareRead, unlessFault, comparison, leftBy, better, Choice, theFirst, theSecond, nothing, isEqual, choice, picked, ownBytes, pickedPart, pickedAt}
+use Rattle.comparison_types.specs.Clauses.{Sound, PickIsRight, EmptyIfRefused}
+use Rattle.comparison_types.specs.declared.Verdict.{Verdict}
+use Rattle.comparison_types.specs.declared.Verdict.the-variants.{Equal, Different, Undecided}
+use Rattle.comparison_types.specs.declared.Refusal.{Refusal}
+use Rattle.comparison_types.specs.declared.Answer.{Answer}
+use Rattle.comparison_types.specs.declared.Answer.the-variants.{Compared, Refused}
+
+module _ (s : List ℕ) (n : ℕ) (gs : List Gate) (e : read s ≡ accepted n gs) where
+  -- an accepted record's head is good, and its g is the number of gates
+  head-of : Accepts s n (length gs)
+  head-of = accepts s (checked.Accepted n (length gs)) n (length gs) (rw e) refl
+
+  -- its gate part has three bytes for each gate
+  pub part-length : length (gatePart s (read s)) ≡ 3 * length gs
+  part-length = rw e (simp (length-take, length-drop) (omega (arith, head-of .head .whole, head-of .g-is)))
+
+  -- its own bytes are the head and the gate part, and the bytes have them all
+  pub own-size : (part : List ℕ) → part ≡ gatePart s (read s) → (5 + length part ≡ size (count s)) × (5 + length part ≤ length s)
+  own-size part same =
+      let long = ap length same ∙ part-length in
+      (omega (arith, long, head-of .g-is), omega (arith, long, head-of .g-is, head-of .head .whole))
+
+  -- they are some
+  own-some : ownBytes s ≡ [] → ⊥
+  own-some none-left =
+      let long : length (ownBytes s) ≡ size (count s) = simp length-take (omega (arith, head-of .head .whole)) in
+      omega (arith, long, ap length none-left)
+
+-- bytes with the same head and gate bytes, with room for them, read as the same
+same-reading :
+    (s u : List ℕ)
+    → ((i : ℕ) → i < 5 → getD u i 0 ≡ getD s i 0)
+    → take (3 * count s) (drop 5 u) ≡ body s
+    → size (count s) ≤ length s
+    → size (count s) ≤ length u
+    → read u ≡ read s
+unfolding read recordRows
+same-reading s u head gates long long′ =
+    rw (head 0 (omega arith), head 1 (omega arith), head 2 (omega arith), head 3 (omega arith), head 4 (omega arith), gates)
+    (rw (
+      le-ltb (length u) 5 (omega arith),
+      le-ltb (length s) 5 (omega arith),
+      le-ltb (length u) (size (count s)) long′,
+      le-ltb (length s) (size (count s)) long,
+    ))
+
+-- the bytes behind a head, of bytes cut behind them
+take-behind : (k : ℕ) (s : List ℕ) → 5 + k ≤ length s → take k (drop 5 (take (5 + k) s)) ≡ take k (drop 5 s)
+take-behind k s long =
+    let five : length (take 5 s) ≡ 5 = simp length-take (omega arith) in
+    rw (take-add 5 k s, drop-at (take 5 s) (take k (drop 5 s)) 5 five) (take-take k k (drop 5 s) (omega arith))
+
+-- the own bytes of an accepted record read back as the record
+own-reads : (s : List ℕ) (n : ℕ) (gs : List Gate) → read s ≡ accepted n gs → read (ownBytes s) ≡ accepted n gs
+own-reads s n gs e =
+    let whole = head-of s n gs e .head .whole in
+    let long : size (count s) ≤ length (ownBytes s) = simp length-take (omega arith) in
+    same-reading s (ownBytes s)
+    (λ i below. getD-take (size (count s)) s i 0 (omega arith))
+    (take-behind (3 * count s) s whole)
+    whole
+    long
+    ∙ e
+
+-- every list is carried to itself by the power 0
+itself : (n : ℕ) (gs : List Gate) → SomePower n gs gs
+itself n gs = (0, omega arith, λ v below w below′. ω^-zero (√2^ (hGates gs) (column gs v w)))
+
+module _ (gs hs : List Gate) where
+  -- a list with fewer T gates is better
+  pub better-fewer : tGates hs < tGates gs → true ≡ better gs hs
+  better-fewer less = rw (lt-ltb (tGates hs) (tGates gs) less)
+
+  -- one with more is not
+  pub better-more : tGates gs < tGates hs → false ≡ better gs hs
+  better-more more =
+      let other : tGates hs ≡ tGates gs → ⊥ = λ same. omega arith in
+      rw (le-ltb (tGates hs) (tGates gs) (omega arith), ne-eqb (tGates hs) (tGates gs) other)
+
+  -- of two with as many, the one with fewer gates, or with fewer bytes, three a gate
+  pub better-shorter : tGates hs ≡ tGates gs → ltb (3 * length hs) (3 * length gs) ≡ better gs hs
+  better-shorter same =
+      rw (le-ltb (tGates hs) (tGates gs) (omega arith), eq-eqb (tGates hs) (tGates gs) same) (go (ltb (length hs) (length gs)) refl)
+    where
+      go : (b : Bool) → ltb (length hs) (length gs) ≡ b → ltb (3 * length hs) (3 * length gs) ≡ b
+      go true less = lt-ltb (3 * length hs) (3 * length gs) (omega (arith, ltb-true))
+      go false more = le-ltb (3 * length hs) (3 * length gs) (omega (arith, ltb-false))
+
+  -- a better list has at most as many T gates
+  better-few : better gs hs ≡ true → tGates hs ≤ tGates gs
+  better-few = go (ltb (tGates hs) (tGates gs)) refl
+    where
+      go : (b : Bool) → ltb (tGates hs) (tGates gs) ≡ b → (b || (eqb (tGates hs) (tGates gs) && ltb (length hs) (length gs))) ≡ true
+          → tGates hs ≤ tGates gs
+      go true less h = omega (arith, ltb-true)
+      go false more h =
+          let same = eqb-true (tGates hs) (tGates gs) (and-eq-true-iff _ _ .0 h .0) in
+          omega arith
+
+-- what is chosen of a pair that was compared
+choice-by :
+    (r : Result) (n m : ℕ) (gs hs : List Gate)
+    → choice (says r) (accepted n gs) (accepted m hs) ≡ cond (isEqual (r .verdict) && better gs hs) theSecond theFirst
+unfolding choice
+choice-by r n m gs hs = go (isEqual (r .verdict))
+  where
+    go : (b : Bool) → cond b (cond (better gs hs) theSecond theFirst) theFirst ≡ cond (b && better gs hs) theSecond theFirst
+    go true = refl
+    go false = refl
+
+-- a verdict that stands for equal is that of the enum
+is-equal : (v : Verdict) → isEqual (verdictOf v) ≡ true → v ≡ Equal
+is-equal Equal h = refl
+is-equal Different h = let z : _≡_ {A = ℕ} 0 1 = cc in absurd (omega arith)
+is-equal Undecided h = let z : _≡_ {A = ℕ} 0 1 = cc in absurd (omega arith)
+
+-- two lists on other numbers of qubits are refused
+other-qubits : (n m w c : ℕ) (gs hs : List Gate) (a : Said) → eqb n m ≡ false
+    → unlessFault (pairFault (accepted n gs) (accepted m hs) w c) a ≡ refuses 8
+unfolding pairFault first
+other-qubits n m w c gs hs a other = rw other
+
+-- two readings that were compared are accepted, on as many qubits
+passed : (p q : Reading) (w c : ℕ) (r : Result) → unlessFault (pairFault p q w c) (compareRead p q) ≡ says r
+    → (n : ℕ) × (gs : List Gate) × (hs : List Gate) × (p ≡ accepted n gs) × (q ≡ accepted n hs)
+unfolding pairFault
+passed (refused f) q w c r h = let z : _≡_ {A = ℕ} 0 1 = cc in absurd (omega arith)
+passed (accepted n gs) (refused f) w c r h = let z : _≡_ {A = ℕ} 0 1 = cc in absurd (omega arith)
+passed (accepted n gs) (accepted m hs) w c r h = go (eqb n m) refl
+  where
+    go : (b : Bool) → eqb n m ≡ b
+        → (k : ℕ) × (is : List Gate) × (js : List Gate) × (accepted n gs ≡ accepted k is) × (accepted m hs ≡ accepted k js)
+    go true same = (n, gs, hs, refl, ap (λ (k : ℕ). accepted k hs) (sym (eqb-true n m same)))
+    go false other =
+        let z : _≡_ {A = ℕ} 0 1 = cc (other-qubits n m w c gs hs (compareRead (accepted n gs) (accepted m hs)) other) in
+        absurd (omega arith)
+
+module _ (s t : List ℕ) (w c : ℕ) where
+  -- two records that were compared are accepted, on as many qubits
+  pub accepted-pair : (r : Result) → comparison s t w c ≡ says r
+      → (n : ℕ) × (gs : List Gate) × (hs : List Gate) × Accepted s t n gs hs
+  accepted-pair r h =
+      let (n, gs, hs, e, f) = passed (read s) (read t) w c r h in
+      (n, gs, hs, record { reads-first = e; reads-second = f })
+
+  -- which list the pick takes of such a pair
+  pub picked-by : (n : ℕ) (gs hs : List Gate) (r : Result) (b : Bool) → Accepted s t n gs hs → comparison s t w c ≡ says r
+      → b ≡ (isEqual (r .verdict) && better gs hs) → picked s t w c ≡ cond b theSecond theFirst
+  picked-by n gs hs r b pair compared same =
+      rw (compared, pair .reads-first, pair .reads-second, same) (choice-by r n n gs hs)
+
+  -- of a refused pair it takes nothing
+  picked-nothing : (k : ℕ) → comparison s t w c ≡ refuses k → picked s t w c ≡ nothing
+  unfolding choice
+  picked-nothing k refuses-it = rw refuses-it
+
+  -- so where the answer is a refusal
+  pub picked-refused : (a : Answer) (r : Refusal) → saidOf a ≡ comparison s t w c → a ≡ Refused r → picked s t w c ≡ nothing
+  picked-refused a r said is = picked-nothing (numberOf r) (sym said ∙ ap saidOf is)
+
+  module _ (a : Answer) (said : saidOf a ≡ comparison s t w c) (sound : Sound s t a) where
+    -- equal is said only where some power of ω carries the pair
+    some-power : (n : ℕ) (gs hs : List Gate) (o : Result) → Accepted s t n gs hs → comparison s t w c ≡ says o
+        → isEqual (o .verdict) ≡ true → SomePower n gs hs
+    some-power n gs hs o pair compared equal = go a refl (said ∙ compared)
+      where
+        go : (b : Answer) → a ≡ b → saidOf b ≡ says o → SomePower n gs hs
+        go (Compared out) is h =
+            let whole : resultOf out ≡ o = cc in
+            let same : verdictOf (out .verdict) ≡ o .verdict = ap (λ (r : Result). r .verdict) whole in
+            sound n gs hs out pair is .0 (ap verdictOf (is-equal (out .verdict) (rw same equal)))
+        go (Refused r) is h = let z : _≡_ {A = ℕ} 0 1 = cc in absurd (omega arith)
+
+    -- the part that is handed back is right
+    right : PickIsRight s t w c (pickedPart (picked s t w c) s t)
+    right n gs hs o pair compared =
+        rw (picked-by n gs hs o (isEqual (o .verdict) && better gs hs) pair compared refl)
+        (go (isEqual (o .verdict)) (better gs hs) refl refl)
+      where
+        go : (p q : Bool) → isEqual (o .verdict) ≡ p → better gs hs ≡ q
+            → (chosen : List Gate)
+            × (read (pickedPart (cond (p && q) theSecond theFirst) s t) ≡ accepted n chosen)
+            × SomePower n gs chosen
+            × (tGates chosen ≤ tGates gs)
+        go true true equal is-better = (
+          hs,
+          own-reads t n hs (pair .reads-second),
+          some-power n gs hs o pair compared equal,
+          better-few gs hs is-better,
+        )
+        go true false equal is-better = (gs, own-reads s n gs (pair .reads-first), itself n gs, omega arith)
+        go false q equal is-better = (gs, own-reads s n gs (pair .reads-first), itself n gs, omega arith)
+
+  -- of accepted records the pick hands back some bytes
+  some-bytes : (n : ℕ) (gs hs : List Gate) → Accepted s t n gs hs → (b : Bool) → pickedPart (cond b theSecond theFirst) s t ≡ [] → ⊥
+  some-bytes n gs hs pair true = own-some t n hs (pair .reads-second)
+  some-bytes n gs hs pair false = own-some s n gs (pair .reads-first)
+
+  -- and empty exactly where the comparison refuses
+  empty : EmptyIfRefused s t w c (pickedPart (picked s t w c) s t)
+  empty = (refusing (comparison s t w c) refl, λ (k, e). rw (picked-nothing k e))
+    where
+      refusing : (a : Said) → comparison s t w c ≡ a → pickedPart (picked s t w c) s t ≡ []
+          → (k : ℕ) × (comparison s t w c ≡ refuses k)
+      refusing (refuses k) e none-left = (k, e)
+      refusing (says r) e none-left =
+          let (n, gs, hs, pair) = accepted-pair r e in
+          let b = isEqual (r .verdict) && better gs hs in
+          absurd (some-bytes n gs hs pair b (rw (picked-by n gs hs r b pair e refl) at none-left))
+
+-- all that the pick's contract says, of the choice x
+pub picks {ℓ} :
+    {B : Type ℓ} (s t ss cs ss′ cs′ : List ℕ) (a : Answer) (x : Choice) (p q r : B) (part : List ℕ)
+    → saidOf a ≡ comparison s t (length ss) (length cs)
+    → (ss′ ≡ leftBy (saidOf a) ss) × (cs′ ≡ leftBy (saidOf a) cs)
+    → Sound s t a
+    → picked s t (length ss) (length cs) ≡ x
+    → part ≡ pickedPart x s t
+    → r ≡ pickedAt x p q
+    → (part ≡ pickedPart (picked s t (length ss) (length cs)) s t)
+    × ((r ≡ pickedAt (picked s t (length ss) (length cs)) p q)
+    × (((ss′ ≡ leftBy (comparison s t (length ss) (length cs)) ss) × (cs′ ≡ leftBy (comparison s t (length ss) (length cs)) cs))
+    × (PickIsRight s t (length ss) (length cs) part × EmptyIfRefused s t (length ss) (length cs) part)))
+picks s t ss cs ss′ cs′ a x p q r part said kept sound is content start =
+    let whole : part ≡ pickedPart (picked s t (length ss) (length cs)) s t = rw is content in (
+      whole,
+      (
+        rw is start,
+        (
+          (rw (← said) (kept .0), rw (← said) (kept .1)),
+          (rw whole (right s t (length ss) (length cs) a said sound), rw whole (empty s t (length ss) (length cs))),
+        ),
+      ),
+    )

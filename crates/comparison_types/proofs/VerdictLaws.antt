@@ -1,0 +1,196 @@
+-- Where a comparison starts and where it ends: the members of a window of variables, the lowest variable of a set among the
+-- qubits, and the verdict by its cases.
+-- Assumes nothing.
+use mathlib.Core.Path.{_≡_, refl, sym, _∙_, ap}
+use mathlib.Core.Bool.{Bool, true, false, cond, _||_, or-true}
+use mathlib.Core.List.{List, [], _∷_, _++_, append-nil}
+use mathlib.Core.Option.{Option, none, some}
+use Prim.Native.Nat.{ℕ, zero, suc, _+_, _*_, _-_, _/_, _%_, _^_, _<_, _≤_}
+use native.Mathlib.Nat.{add-zero, zero-add, add-suc, suc-add, mod-lt, div-add-mod'}
+use native.Mathlib.Omega.{arith}
+use lib.Bits.{block-half, block-odd}
+use lib.Count.{ones, onesIn}
+use lib.Dec.{eqb}
+use lib.ListN.{length}
+use lib.Pow.{pow-pos, pow-mono}
+use borrow.Author.Tests.{eqb-true, eqb-false, eq-eqb, ne-eqb}
+use Rattle.amplitude.specs.Bits.{bit}
+use Rattle.amplitude.proofs.BitLaws.{bit-zero, bit-above, bit-power, bit-power-other}
+use Rattle.phase_sum_meaning.specs.Sets.{firstSuch, firstIn, from, single, Among, here, there}
+use Rattle.phase_sum_meaning.specs.Parity.{Parity}
+use Rattle.phase_sum_meaning.specs.Phase.{Phase}
+use Rattle.phase_sum_meaning.proofs.VariableLaws.{from-among}
+use Rattle.phase_sum_terms.proofs.Words.{shifted-one}
+use Rattle.comparison_meaning.specs.Reduction.{End, reduceEnd}
+use Rattle.comparison_meaning.specs.Verdict.{candidates, firstDiffering, different, equal, result, searched}
+use Rattle.comparison_meaning.proofs.Weight.{search-some}
+use Rattle.comparison_types.specs.Inner.{among, members, inputOf}
+use Rattle.comparison_types.proofs.Members.{length-members, members-none}
+
+-- the m + k numbers from a on are the first m and the k behind them
+from-split : (a m k : ℕ) → from a (m + k) ≡ from a m ++ from (a + m) k
+unfolding from
+from-split a zero k = rw (zero-add, add-zero)
+from-split a (suc m) k = rw (suc-add m k, add-suc a m, ← suc-add a m) (ap (λ (us : List ℕ). a ∷ us) (from-split (suc a) m k))
+
+-- the numbers of two lists that are in a set
+among-join : (s : ℕ) (us ws : List ℕ) → among s (us ++ ws) ≡ among s us ++ among s ws
+unfolding among
+among-join s [] ws = refl
+among-join s (u ∷ us) ws = go (bit u s) (among-join s us ws)
+  where
+    go :
+        (b : Bool) → among s (us ++ ws) ≡ among s us ++ among s ws →
+        cond b (u ∷ among s (us ++ ws)) (among s (us ++ ws)) ≡ cond b (u ∷ among s us) (among s us) ++ among s ws
+    go true e = ap (λ (xs : List ℕ). u ∷ xs) e
+    go false e = e
+
+-- a list of numbers that are all in a set
+among-all : (s : ℕ) (vs : List ℕ) → ((v : ℕ) → Among v vs → bit v s ≡ true) → among s vs ≡ vs
+unfolding among
+among-all s [] h = refl
+among-all s (v ∷ vs) h = rw (h v here, among-all s vs (λ u a. h u (there a)))
+
+-- a list of numbers none of which is in a set
+among-none : (s : ℕ) (vs : List ℕ) → ((v : ℕ) → Among v vs → bit v s ≡ false) → among s vs ≡ []
+unfolding among
+among-none s [] h = refl
+among-none s (v ∷ vs) h = rw (h v here) (among-none s vs (λ u a. h u (there a)))
+
+-- a set holds the variables from n to below v and no others
+pub record Window (n v s : ℕ) : Type 0 where
+  pub inside : (u : ℕ) → n ≤ u → u < v → bit u s ≡ true
+  pub below : (u : ℕ) → u < n → bit u s ≡ false
+  pub above : (u : ℕ) → v ≤ u → bit u s ≡ false
+
+-- the members of a window
+pub members-window : (n v s : ℕ) → n ≤ v → v ≤ 64 → Window n v s → members s ≡ from n (v - n)
+members-window n v s l h w =
+    let parts : 64 ≡ n + ((v - n) + (64 - v)) = omega arith in
+    let up : n + (v - n) ≡ v = omega arith in
+    rw (
+      parts,
+      from-split 0 n ((v - n) + (64 - v)),
+      zero-add,
+      from-split n (v - n) (64 - v),
+      up,
+      among-join s (from 0 n) (from n (v - n) ++ from v (64 - v)),
+      among-join s (from n (v - n)) (from v (64 - v)),
+      among-none s (from 0 n) (λ u a. w .below u (omega (arith, from-among 0 n a))),
+      among-all s (from n (v - n)) (λ u a. w .inside u (from-among n (v - n) a .0) (omega (arith, from-among n (v - n) a))),
+      among-none s (from v (64 - v)) (λ u a. w .above u (from-among v (64 - v) a .0)),
+    )
+    (append-nil (from n (v - n)))
+
+-- the empty set is an empty window
+pub window-empty : (n : ℕ) → Window n n 0
+window-empty n = record { inside = λ u l h. absurd (omega arith); below = λ u l. bit-zero u; above = λ u l. bit-zero u }
+
+-- a window with the variable behind it added is a window
+pub window-more :
+    (n v s r : ℕ) → n ≤ v → ((u : ℕ) → bit u r ≡ bit u s || bit u (single v)) → Window n v s → Window n (v + 1) r
+window-more n v s r l h w =
+    record {
+      inside = λ u i j. h u ∙ at u i j (eqb u v) refl;
+      below = λ u i. rw (h u, w .below u i, bit-power-other u v (λ e. omega arith));
+      above = λ u i. rw (h u, w .above u (omega arith), bit-power-other u v (λ e. omega arith));
+    }
+  where
+    at : (u : ℕ) → n ≤ u → u < v + 1 → (b : Bool) → eqb u v ≡ b → bit u s || bit u (single v) ≡ true
+    at u i j true e = rw (eqb-true u v e, bit-power v) (or-true (bit v s))
+    at u i j false e = rw (w .inside u i (omega (arith, eqb-false u v e)))
+
+-- a bit below n of a number with a multiple of 2^n added
+bit-block : (v n a r : ℕ) → v < n → bit v (a * 2 ^ n + r) ≡ bit v r
+unfolding bit
+bit-block v zero a r l = absurd (omega arith)
+bit-block zero (suc n) a r l = rw block-odd
+bit-block (suc v) (suc n) a r l = rw block-half (bit-block v n a (r / 2) (omega arith))
+
+-- the bits below n are those of the rest by 2^n
+bit-rest : (v n s : ℕ) → v < n → bit v (s % 2 ^ n) ≡ bit v s
+bit-rest v n s l = sym (bit-block v n (s / 2 ^ n) (s % 2 ^ n) l) ∙ ap (λ (w : ℕ). bit v w) (div-add-mod' s (2 ^ n))
+
+-- the same is found by two tests that agree on a list, where none passes the first behind it
+first-agree :
+    (t u : ℕ → Bool) (vs ws : List ℕ) →
+    ((v : ℕ) → Among v vs → t v ≡ u v) →
+    ((v : ℕ) → Among v ws → t v ≡ false) →
+    firstSuch t (vs ++ ws) ≡ firstSuch u vs
+unfolding firstSuch
+first-agree t u [] [] same clear = refl
+first-agree t u [] (w ∷ ws) same clear = rw (clear w here) (first-agree t u [] ws same (λ v a. clear v (there a)))
+first-agree t u (v ∷ vs) ws same clear =
+    rw (same v here, first-agree t u vs ws (λ x a. same x (there a)) clear)
+
+-- the lowest variable below n of a set, where the code masks the set by a shifted 1
+pub lowest-below :
+    (n s : ℕ) → n ≤ 16 → firstSuch (λ v. bit v (s % (1 * 2 ^ n % 2 ^ 64))) (from 0 64) ≡ firstIn (from 0 n) s
+lowest-below n s l =
+    let parts : 64 ≡ n + (64 - n) = omega arith in
+    rw (shifted-one n (omega arith), parts, from-split 0 n (64 - n), zero-add)
+    (
+    first-agree
+    (λ v. bit v (s % 2 ^ n))
+    (λ v. bit v s)
+    (from 0 n)
+    (from n (64 - n))
+    (λ v a. bit-rest v n s (omega (arith, from-among 0 n a)))
+    (λ v a. bit-above n v (s % 2 ^ n) (mod-lt s (pow-pos n)) (from-among n (64 - n) a .0))
+    )
+
+-- what a search found that did not answer 0
+input-found : (r : ℕ) (o : Option ℕ) → inputOf r ≡ o → (r ≡ 0 → ⊥) → o ≡ some r
+unfolding inputOf
+input-found zero o e ne = absurd (ne refl)
+input-found (suc r) o e ne = sym e
+
+-- and one that did
+input-none : (r : ℕ) (o : Option ℕ) → inputOf r ≡ o → r ≡ 0 → o ≡ none
+unfolding inputOf
+input-none zero o e z = sym e
+input-none (suc r) o e z = absurd (omega arith)
+
+-- an input found on at most 16 qubits is below 2^16
+pub found-below : (n r : ℕ) (φ : Phase) → n ≤ 16 → inputOf r ≡ firstDiffering φ (candidates 0 n) → (r ≡ 0 → ⊥) → r < 2 ^ 16
+found-below n r φ l e ne = omega (arith, search-some 0 n r φ (input-found r _ e ne), pow-mono {i = n} {j = 16} l)
+
+-- the verdict on n qubits where no variable is left
+module _ (n : ℕ) (e : End) where
+  -- different, where pins and sums differ
+  pub searched-uneven : (e .counts .pins ≡ e .counts .sums → ⊥) → searched 0 n e ≡ result different 0 0 e
+  unfolding searched
+  searched-uneven ne = rw (ne-eqb (e .counts .pins) (e .counts .sums) ne, searched)
+
+  -- different, where the search found an input
+  pub searched-found :
+      (r : ℕ) → e .counts .pins ≡ e .counts .sums → inputOf r ≡ firstDiffering (e .sum .phase) (candidates 0 n) → (r ≡ 0 → ⊥) →
+      searched 0 n e ≡ result different 0 r e
+  unfolding searched
+  searched-found r even i ne = rw (eq-eqb (e .counts .pins) (e .counts .sums) even, input-found r _ i ne, searched)
+
+  -- equal, where it found none
+  pub searched-none :
+      (r : ℕ) → e .counts .pins ≡ e .counts .sums → inputOf r ≡ firstDiffering (e .sum .phase) (candidates 0 n) → r ≡ 0 →
+      searched 0 n e ≡ result equal 0 0 e
+  unfolding searched
+  searched-none r even i z = rw (eq-eqb (e .counts .pins) (e .counts .sums) even, input-none r _ i z, searched)
+
+-- a list of length 0
+length-nil : (us : List ℕ) → length us ≡ 0 → us ≡ []
+length-nil [] e = refl
+length-nil (u ∷ us) e = absurd (omega arith)
+
+-- a set that is not empty has members
+pub members-left : (s : ℕ) → s < 2 ^ 64 → (s ≡ 0 → ⊥) → eqb (length (members s)) 0 ≡ false
+members-left s l ne = ne-eqb (length (members s)) 0 (λ e. ne (members-none s l (length-nil (members s) e)))
+
+-- the empty set has none
+pub members-empty : (s : ℕ) → s ≡ 0 → eqb (length (members s)) 0 ≡ true
+unfolding ones onesIn
+members-empty s z = rw (z, length-members 0 (omega arith))
+
+-- reducing leaves a blocked end as it is
+pub reduce-blocked : (e : End) (q : Parity) → e .blockedBy ≡ some q → reduceEnd e ≡ e
+unfolding reduceEnd
+reduce-blocked e q b = rw b

@@ -1,0 +1,93 @@
+// The comparison layer, its base: answers and numbers, the state of a reduction, and what the contracts of the layer say (specs/). Document
+// 01, "Reducing it", "Report, pick, builder" and "Where a call is turned down". Licensees use `comparison`.
+ghost use mathlib.Core.Path.{_≡_};
+ghost use Rattle.comparison_types.specs.Call.{numberOf};
+use phase_sum_terms::Phase;
+use phase_sum_terms::Wire;
+use phase_sum_terms::Wires;
+
+// The three verdicts.
+pub enum Verdict {
+    Equal,
+    Different,
+    Undecided,
+}
+
+// What the comparison found: the verdict, two inputs (0 unless different) and document 01's five counts.
+pub struct Outcome {
+    pub verdict: Verdict,
+    pub first: u16,
+    pub second: u16,
+    pub pins: u8,
+    pub sums: u8,
+    pub turns: u8,
+    pub joins: u8,
+    pub left: u8,
+}
+
+// Why a pair is turned down. specs/Call.antt gives each case document 01's number.
+pub enum Refusal {
+    // 1 to 7: one of the lists, the first before the second
+    List(record_format::Refusal),
+    // 8: their n differ
+    QubitsDiffer,
+    // 9: n and the H gates of both are above 64
+    TooManyVariables,
+    // 10: a workspace has under 3,136 places
+    WorkspaceShort,
+}
+
+// What the comparison answers.
+pub enum Answer {
+    Compared(Outcome),
+    Refused(Refusal),
+}
+
+// The number of a refusal.
+pub fn number(r: Refusal) -> u8
+    ensures { λ k. ⌜ k ≡ numberOf r ⌝ }
+{
+    match r {
+        Refusal::List(refusal) => record_format::number(refusal),
+        Refusal::QubitsDiffer => 8,
+        Refusal::TooManyVariables => 9,
+        Refusal::WorkspaceShort => 10,
+    }
+}
+
+// How often each step was taken so far.
+pub struct Counts {
+    pub pins: u8,
+    pub sums: u8,
+    pub turns: u8,
+    pub joins: u8,
+}
+
+// A path sum under reduction: its terms stand in the workspaces.
+pub struct State {
+    pub n: usize,
+    // the path variables that are left, as a set
+    pub live: u64,
+    pub wires: Wires,
+    pub phase: Phase,
+    pub counts: Counts,
+}
+
+// Where pinning or reducing stands: blocked by a parity, or not.
+pub struct End {
+    pub blocked: bool,
+    pub by: Wire,
+    pub state: State,
+}
+
+// What a search for a variable finds.
+pub enum Found {
+    Variable(u32),
+    Nothing,
+}
+
+// What the checks on a pair find: its qubits, or why it is turned down.
+pub enum PairCheck {
+    Good(usize),
+    Refused(Refusal),
+}

@@ -1,0 +1,78 @@
+-- Building the path sum of a gate list: document 01, "Building the sum". Variables 0 to n−1 are the inputs; the k-th H that
+-- runs brings path variable n + k.
+-- Assumes nothing.
+use Prim.Native.Nat.{ℕ, _+_}
+use mathlib.Core.Bool.{cond}
+use mathlib.Core.List.{List, [], _∷_, _++_, map}
+use lib.ListN.{length, getD, set}
+use Rattle.record_format.specs.Gate.{Gate, one, two, X, Y, Z, S, S†, T, T†, H, CX, CZ, SWAP}
+use Rattle.amplitude.specs.Bits.{bit}
+use Rattle.phase_sum_meaning.specs.Sets.{single, from}
+use Rattle.phase_sum_meaning.specs.Parity.{Parity, of, _⊕_, complement}
+use Rattle.phase_sum_meaning.specs.Phase.{Phase, addConstant, addPhase}
+
+-- the path sum: its phase, the wires' parities by qubit, and the path variables that are summed over, in rising order
+pub record PathSum : Type 0 where
+  pub phase : Phase
+  pub wires : List Parity
+  pub live : List ℕ
+
+-- the parity of qubit q's input; with a set of scratch qubits, which start at 0, those inputs are the constant 0
+unfoldable pub input : ℕ → ℕ → Parity
+input scratch q = cond (bit q scratch) (of 0) (of (single q))
+
+-- no phase yet, and each wire its own input
+unfoldable pub initial : ℕ → ℕ → PathSum
+initial scratch n =
+    record { phase = record { constant = 0; terms = [] }; wires = map (input scratch) (from 0 n); live = [] }
+
+-- the parity of wire q
+abbrev pub wire : ℕ → PathSum → Parity
+wire q s = getD (s .wires) q (of 0)
+
+-- the sum with wire q set to p
+unfoldable pub setWire : ℕ → Parity → PathSum → PathSum
+setWire q p s = record { phase = s .phase; wires = set (s .wires) q p; live = s .live }
+
+-- the sum with another phase
+unfoldable pub withPhase : Phase → PathSum → PathSum
+withPhase φ s = record { phase = φ; wires = s .wires; live = s .live }
+
+-- c on a parity
+abbrev pub turnBy : ℕ → Parity → PathSum → PathSum
+turnBy c p s = withPhase (addPhase c p (s .phase)) s
+
+-- 4 on a product of two parities, by 4uv = 2u + 2v − 2(u ⊕ v)
+abbrev pub product : Parity → Parity → PathSum → PathSum
+product u v s = turnBy 6 (u ⊕ v) (turnBy 2 v (turnBy 2 u s))
+
+-- H on wire q: the new path variable v comes in
+unfoldable pub hadamard : ℕ → ℕ → PathSum → PathSum
+hadamard v q s =
+    let t = product (wire q s) (of (single v)) s in
+    record { phase = t .phase; wires = set (t .wires) q (of (single v)); live = t .live ++ v ∷ [] }
+
+-- what one gate does to the sum of a list on n qubits. Y is Z followed by X and its published factor ω^y, y = 2
+unfoldable pub gate : ℕ → ℕ → Gate → PathSum → PathSum
+gate y n (one X q) s = setWire q (complement (wire q s)) s
+gate y n (one Y q) s =
+    let t = turnBy 4 (wire q s) s in
+    setWire q (complement (wire q t)) (withPhase (addConstant y (t .phase)) t)
+gate y n (one Z q) s = turnBy 4 (wire q s) s
+gate y n (one S q) s = turnBy 2 (wire q s) s
+gate y n (one S† q) s = turnBy 6 (wire q s) s
+gate y n (one T q) s = turnBy 1 (wire q s) s
+gate y n (one T† q) s = turnBy 7 (wire q s) s
+gate y n (one H q) s = hadamard (n + length (s .live)) q s
+gate y n (two CX a b) s = setWire b (wire b s ⊕ wire a s) s
+gate y n (two CZ a b) s = product (wire a s) (wire b s) s
+gate y n (two SWAP a b) s = setWire b (wire a s) (setWire a (wire b s) s)
+
+-- the gates in list order
+unfoldable pub gatesFrom : ℕ → ℕ → List Gate → PathSum → PathSum
+gatesFrom y n [] s = s
+gatesFrom y n (g ∷ gs) s = gatesFrom y n gs (gate y n g s)
+
+-- the sum of a list on n qubits, with the published Y
+unfoldable pub build : ℕ → ℕ → List Gate → PathSum
+build scratch n gs = gatesFrom 2 n gs (initial scratch n)

@@ -1,0 +1,26 @@
+-- `phase_sum::stepping::odd_half` meets its contract: the tests are those of the definition.
+-- Assumes nothing.
+use borrow.Author.Tests.{eq-eqb, ne-eqb}
+use borrow.Author.Needs.{needs}
+use Rattle.phase_sum_stepping.proofs.odd_half.Statement.{statement}
+use Rattle.phase_sum_stepping.proofs.odd_half.Tie as tie
+
+holds-requires : tie.Need-holds-requires
+holds-requires c κs = search needs
+
+without-requires : tie.Need-without-requires
+without-requires c κs = search needs
+
+returns : tie.Need-returns
+returns c =
+    let at-if = c .before .before in
+    rw (← at-if .before .holds .ensures, at-if .if1 .taken, eq-eqb _ _ (c .before .if2 .taken)) (c .without .ensures)
+
+returns-2 : tie.Need-returns-2
+returns-2 c = rw (← c .before .before .holds .ensures, c .before .if1 .taken, ne-eqb _ _ (c .if2 .left))
+
+returns-3 : tie.Need-returns-3
+returns-3 c = rw (← c .before .holds .ensures, c .if1 .left)
+
+pub odd-half-spec : {M : Type 1} → statement M
+odd-half-spec = tie.close (tie.spec holds-requires without-requires returns returns-2 returns-3)

@@ -1,0 +1,15 @@
+-- Laws behind the code of the phase-sum layer. In order: terms stored in places; merging in any order; words as sets; tables; loops over
+-- places; passes over the terms; sorting; merging terms in order; wires; counting gates; running gates; accepted records.
+pub mod Storing
+pub mod Merging
+pub mod Words
+pub mod Table
+pub mod Places
+pub mod Passes
+pub mod Sorting
+pub mod Compacting
+pub mod WireLaws
+pub mod Tallying
+pub mod Running
+pub mod Acceptance
+pub mod Anchors

@@ -1,0 +1,138 @@
+-- The machine's words as sets of variables: its shifts, its bit operations, and the parity of a word's bits, byte by byte.
+-- Assumes nothing.
+use mathlib.Core.Path.{_≡_, refl, sym, _∙_, ap}
+use mathlib.Core.Bool.{Bool, true, false, _&&_, _||_, xor, and-self}
+use Prim.Native.Nat.{ℕ, zero, suc, _+_, _*_, _/_, _%_, _^_, _<_, min, max}
+use native.Mathlib.Nat.{mod-eq-of-lt, one-mul, div-one, mod-one, div-div-eq-div-mul, pow-suc, pow-succ'}
+use native.Mathlib.Omega.{arith}
+use lib.Arith.{bin-ind, mod-mul}
+use lib.Pow.{pow-lt, pow-pos}
+use lib.Bits.{bitAnd, bitOr, bitXor, differ, and-step, or-step, xor-step, and-mask, and-comm}
+use lib.Dec.{eqb}
+use Rattle.amplitude.specs.Bits.{digit, bit}
+use Rattle.amplitude.proofs.BitLaws.{digit-below, digit-eqb, rest-below, bits-ext}
+use Rattle.amplitude.proofs.XorLaws.{xor-falseˡ, xor-assoc}
+use Rattle.phase_sum_meaning.specs.Sets.{_△_, single, parity}
+use Rattle.phase_sum_meaning.proofs.SetLaws.{bit-△, parity-step, parity-empty}
+
+-- 1 shifted by the number of a variable is the set of that variable
+pub shifted-one : (v : ℕ) → v < 64 → (1 * 2 ^ v) % 2 ^ 64 ≡ single v
+shifted-one v l = rw one-mul (mod-eq-of-lt (pow-lt l))
+
+-- a number halved and then shifted down
+high-half : (k x : ℕ) → x / 2 / 2 ^ k ≡ x / 2 ^ suc k
+high-half k x = rw pow-succ' (div-div-eq-div-mul x 2 (2 ^ k))
+
+-- the lowest bit of a set shifted down by the number of a variable is the variable's
+pub shifted-bit : (v s : ℕ) → eqb (s / 2 ^ v % 2) 1 ≡ bit v s
+unfolding bit
+shifted-bit zero s = rw div-one
+shifted-bit (suc v) s = rw (← high-half) (shifted-bit v (s / 2))
+
+-- a digit tested for 1 gives its bit back
+pub digit-test : (x : Bool) → eqb (digit x) 1 ≡ x
+digit-test true = refl
+digit-test false = refl
+
+-- An operation that goes through the digits of two numbers by f, where f is g on digits.
+module _ (op f : ℕ → ℕ → ℕ) (g : Bool → Bool → Bool)
+    (step : (a b : ℕ) → op a b ≡ op (a / 2) (b / 2) * 2 + f (a % 2) (b % 2))
+    (digits : (x y : Bool) → f (digit x) (digit y) ≡ digit (g x y)) where
+  -- the result by its lowest bit and the others
+  op-step : (a b : ℕ) → op a b ≡ op (a / 2) (b / 2) * 2 + digit (g (bit 0 a) (bit 0 b))
+  unfolding bit
+  op-step a b = rw (step a b, ← digits, digit-eqb (a % 2) (rest-below a), digit-eqb (b % 2) (rest-below b))
+
+  -- the result halved
+  op-half : (a b : ℕ) → op a b / 2 ≡ op (a / 2) (b / 2)
+  op-half a b = omega (arith, op-step a b, digit-below (g (bit 0 a) (bit 0 b)))
+
+  -- each bit of the result
+  bit-op : (v a b : ℕ) → bit v (op a b) ≡ g (bit v a) (bit v b)
+  unfolding bit
+  bit-op zero a b =
+      let odd : op a b % 2 ≡ digit (g (bit 0 a) (bit 0 b)) = omega (arith, op-step a b, digit-below (g (bit 0 a) (bit 0 b))) in
+      rw odd (digit-test (g (bit 0 a) (bit 0 b)))
+  bit-op (suc v) a b = rw op-half (bit-op v (a / 2) (b / 2))
+
+-- the smaller of two digits is 1 where both are
+min-digits : (x y : Bool) → min (digit x) (digit y) ≡ digit (x && y)
+min-digits true true = refl
+min-digits true false = refl
+min-digits false true = refl
+min-digits false false = refl
+
+-- the larger of two digits is 1 where one is
+max-digits : (x y : Bool) → max (digit x) (digit y) ≡ digit (x || y)
+max-digits true true = refl
+max-digits true false = refl
+max-digits false true = refl
+max-digits false false = refl
+
+-- two digits differ where one is 1 and not both
+differ-digits : (x y : Bool) → differ (digit x) (digit y) ≡ digit (xor x y)
+unfolding xor
+differ-digits true true = refl
+differ-digits true false = refl
+differ-digits false true = refl
+differ-digits false false = refl
+
+-- the machine's or is the union
+pub bit-or : (v a b : ℕ) → bit v (bitOr a b) ≡ bit v a || bit v b
+bit-or = bit-op bitOr max _||_ or-step max-digits
+
+-- the machine's exclusive or is that of sets
+pub xor-sets : (a b : ℕ) → bitXor a b ≡ a △ b
+xor-sets a b =
+    bits-ext (bitXor a b) (a △ b) (λ v. bit-op bitXor differ xor xor-step differ-digits v a b ∙ sym (bit-△ v a b))
+
+-- the parity of a set at an input is that of the bits that both have
+pub parity-and : (s x : ℕ) → parity s x ≡ parity (bitAnd s x) (bitAnd s x)
+parity-and =
+    bin-ind
+    (λ s. (x : ℕ) → parity s x ≡ parity (bitAnd s x) (bitAnd s x))
+    (λ x. parity-empty x ∙ sym (parity-empty 0))
+    (λ s h x.
+    rw (
+      parity-step s x,
+      h (x / 2),
+      parity-step (bitAnd s x) (bitAnd s x),
+      and-self,
+      bit-op bitAnd min _&&_ and-step min-digits 0 s x,
+      op-half bitAnd min _&&_ and-step min-digits s x,
+    ))
+
+-- the low digits of a number by the lowest and the others
+low-step : (k x : ℕ) → x % 2 ^ suc k ≡ x / 2 % 2 ^ k * 2 + x % 2
+low-step k x = rw pow-suc (mod-mul x (pow-pos k) (omega arith))
+
+-- the low digits of a number halved
+low-half : (k x : ℕ) → x % 2 ^ suc k / 2 ≡ x / 2 % 2 ^ k
+low-half k x = omega (arith, low-step k x)
+
+-- the lowest bit of the low digits of a number
+low-bit : (k x : ℕ) → bit 0 (x % 2 ^ suc k) ≡ bit 0 x
+unfolding bit
+low-bit k x =
+    let odd : x % 2 ^ suc k % 2 ≡ x % 2 = omega (arith, low-step k x) in
+    rw odd
+
+-- a parity by the first k variables and the others
+parity-cut : (k s x : ℕ) → parity s x ≡ xor (parity (s % 2 ^ k) (x % 2 ^ k)) (parity (s / 2 ^ k) (x / 2 ^ k))
+parity-cut zero s x = simp (mod-one, div-one, parity-empty, xor-falseˡ)
+parity-cut (suc k) s x =
+    rw
+    (parity-step s x, parity-cut k (s / 2) (x / 2), high-half k s, high-half k x, parity-step (s % 2 ^ suc k) (x % 2 ^ suc k))
+    (simp (low-half, low-bit) (sym (xor-assoc _ _ _)))
+
+-- the parity of the eight lowest variables at a byte is that of the byte's own bits
+byte-bits : (b : ℕ) → b < 256 → parity 255 b ≡ parity b b
+byte-bits b l = parity-and 255 b ∙ ap (λ (m : ℕ). parity m m) (and-comm 255 b ∙ (and-mask b 8 ∙ mod-eq-of-lt l))
+
+-- the parity of a word's bits by its lowest byte and the rest, on top of what is counted already
+pub parity-byte : (odd : Bool) (x : ℕ)
+    → xor (xor odd (parity 255 (x % 256))) (parity (x / 256) (x / 256)) ≡ xor odd (parity x x)
+parity-byte odd x =
+    rw
+    (byte-bits (x % 256) (omega arith), parity-cut 8 x x)
+    (xor-assoc odd (parity (x % 256) (x % 256)) (parity (x / 256) (x / 256)))

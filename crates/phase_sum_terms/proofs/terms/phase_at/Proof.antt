@@ -1,0 +1,83 @@
+-- `phase_sum::terms::phase_at` meets its contract. The loop's invariant: the sum is the phase that the first i terms give, mod 8.
+-- The measure is how many terms are left.
+-- Assumes nothing.
+use mathlib.Core.Path.{_≡_, _∙_}
+use Prim.Native.Nat.{_-_, _%_, _≤_}
+use native.Mathlib.Omega.{arith}
+use denote.Ref.{now}
+use Rattle.phase_sum_terms.proofs.Places.{phaseBy, phaseBy-none, phaseBy-more, phaseBy-constant}
+use Rattle.phase_sum_terms.proofs.terms.phase_at.Statement.{statement}
+use Rattle.phase_sum_terms.proofs.terms.phase_at.Tie as tie
+
+abbrev Inv-loop : tie.InvT-loop
+Inv-loop sets coeffs input count sum₀ i₀ sum i = (i ≤ count) × (sum ≡ phaseBy i sum₀ sets coeffs input % 8)
+
+abbrev μ-loop : tie.MeasureT-loop
+μ-loop sets coeffs input count sum₀ i₀ sum i = count - i
+
+add-requires : tie.Need-add-requires Inv-loop μ-loop
+add-requires c κs = tt
+
+loop-holds : tie.Need-loop-holds Inv-loop μ-loop
+loop-holds c =
+    let a = c .before .before .before .args in
+    (omega arith, omega (arith, phaseBy-none (c .add .result) (now (a .sets)) (now (a .coeffs)) (a .input)))
+
+mul-share : tie.Need-mul-share Inv-loop μ-loop
+mul-share c = omega arith
+
+shared-slice-read-share : tie.Need-shared-slice-read-share Inv-loop μ-loop
+shared-slice-read-share c = omega arith
+
+shared-slice-read-share-2 : tie.Need-shared-slice-read-share-2 Inv-loop μ-loop
+shared-slice-read-share-2 c = omega arith
+
+share-requires : tie.Need-share-requires Inv-loop μ-loop
+share-requires c κs = tt
+
+add-requires-2 : tie.Need-add-requires-2 Inv-loop μ-loop
+add-requires-2 c κs = tt
+
+add-i : tie.Need-add-i Inv-loop μ-loop
+add-i c = omega arith
+
+loop-less : tie.Need-loop-less Inv-loop μ-loop
+loop-less c = omega arith
+
+loop-again : tie.Need-loop-again Inv-loop μ-loop
+loop-again c =
+    let at-loop = c .before .before .before .before .before in
+    let at-add = at-loop .before in
+    let a = at-add .before .before .before .args in
+    let ss = now (a .sets) in
+    let cs = now (a .coeffs) in
+    let step = phaseBy-more (at-loop .loop .i) (at-add .add .result) ss cs (a .input) (omega arith) (omega arith) in
+    (omega arith, omega arith)
+
+returns : tie.Need-returns Inv-loop μ-loop
+returns c =
+    let at-loop = c .before in
+    let at-add = at-loop .before in
+    let a = at-add .before .before .before .args in
+    let done : at-loop .loop .i ≡ a .phase .count = omega arith in
+    at-loop .loop .inv .1
+    ∙ rw (done, at-add .add .ensures)
+    (phaseBy-constant (a .phase .count) (a .phase .constant) (now (a .sets)) (now (a .coeffs)) (a .input))
+
+pub phase-at-spec : {M : Type 1} → statement M
+phase-at-spec =
+    tie.close
+    (tie.spec
+    Inv-loop
+    μ-loop
+    add-requires
+    loop-holds
+    mul-share
+    shared-slice-read-share
+    shared-slice-read-share-2
+    share-requires
+    add-requires-2
+    add-i
+    loop-less
+    loop-again
+    returns)

@@ -1,0 +1,95 @@
+-- Building the sum with the terms put one behind the other as the gates run, to be merged once at the end: the order of merging
+-- does not matter (proofs/Merging.antt).
+-- Assumes nothing.
+use mathlib.Core.Path.{_≡_}
+use Prim.Native.Nat.{ℕ, _+_, _%_, _≤_}
+use mathlib.Core.Bool.{cond}
+use mathlib.Core.List.{List, [], _∷_, _++_, map}
+use lib.ListN.{length}
+use Rattle.record_format.specs.Gate.{Gate, one, two, X, Y, Z, S, S†, T, T†, H, CX, CZ, SWAP, AllWithin, gateOf, inverseList}
+use Rattle.record_format.specs.Reading.{raws}
+use Rattle.amplitude.specs.Circuit.{tally, hGates}
+use Rattle.phase_sum_meaning.specs.Sets.{single}
+use Rattle.phase_sum_meaning.specs.Parity.{Parity, of, _⊕_}
+use Rattle.phase_sum_meaning.specs.Phase.{Term, term, minus}
+use Rattle.phase_sum_meaning.specs.Building.{PathSum, initial, wire, gate}
+use Rattle.phase_sum_meaning.specs.Room.{roomFor, room, mostVariables}
+use Rattle.phase_sum_terms.specs.Workspace.{Stored, wiresOf}
+use Rattle.phase_sum_terms.specs.declared.Sum.{Sum}
+
+-- the gates that bytes stand for, three bytes a gate
+abbrev pub gatesIn : List ℕ → List Gate
+gatesIn bytes = map gateOf (raws bytes)
+
+-- the gates of the first list, then those of the second backwards and each inverted, from the bytes of both
+abbrev pub joinedIn : List ℕ → List ℕ → List Gate
+joinedIn first second = gatesIn first ++ inverseList (gatesIn second)
+
+-- the term of a phase c on a parity: −c where the parity is complemented
+unfoldable pub phaseTerm : ℕ → Parity → Term
+phaseTerm c p = term (p .vars) (cond (p .flipped) (minus c) c)
+
+-- the terms of 4 on a product of two parities
+abbrev pub productTerms : Parity → Parity → List Term
+productTerms u v = phaseTerm 2 u ∷ phaseTerm 2 v ∷ phaseTerm 6 (u ⊕ v) ∷ []
+
+-- the terms that a gate adds
+unfoldable pub gateTerms : ℕ → Gate → PathSum → List Term
+gateTerms n (one X q) s = []
+gateTerms n (one Y q) s = phaseTerm 4 (wire q s) ∷ []
+gateTerms n (one Z q) s = phaseTerm 4 (wire q s) ∷ []
+gateTerms n (one S q) s = phaseTerm 2 (wire q s) ∷ []
+gateTerms n (one S† q) s = phaseTerm 6 (wire q s) ∷ []
+gateTerms n (one T q) s = phaseTerm 1 (wire q s) ∷ []
+gateTerms n (one T† q) s = phaseTerm 7 (wire q s) ∷ []
+gateTerms n (one H q) s = productTerms (wire q s) (of (single (n + length (s .live))))
+gateTerms n (two CX a b) s = []
+gateTerms n (two CZ a b) s = productTerms (wire a s) (wire b s)
+gateTerms n (two SWAP a b) s = []
+
+-- what one gate does, with its terms behind the others
+unfoldable pub appendGate : ℕ → Gate → PathSum → PathSum
+appendGate n g s =
+    record {
+      phase = record { constant = gate 2 n g s .phase .constant; terms = s .phase .terms ++ gateTerms n g s };
+      wires = gate 2 n g s .wires;
+      live = gate 2 n g s .live;
+    }
+
+-- the gates in list order
+unfoldable pub appendGates : ℕ → List Gate → PathSum → PathSum
+appendGates n [] s = s
+appendGates n (g ∷ gs) s = appendGates n gs (appendGate n g s)
+
+-- what running gates on a sum asks for: at most 16 qubits, the gates on these, at most 64 variables in the end, and room for the
+-- terms in both workspaces
+pub record Fitting (s : Sum) (gs : List Gate) (ss cs : List ℕ) : Type 0 where
+  pub few : s .n ≤ 16
+  pub started : s .n ≤ s .next
+  pub within : AllWithin (s .n) gs
+  pub variables : s .next + hGates gs ≤ mostVariables
+  pub sets : s .phase .count + tally roomFor gs ≤ length ss
+  pub coeffs : s .phase .count + tally roomFor gs ≤ length cs
+
+-- how many terms gates add, unmerged
+abbrev pub appended : ℕ → List Gate → ℕ
+appended n gs = length (appendGates n gs (initial 0 n) .phase .terms)
+
+-- what building asks for: the bytes of two lists on at most 16 qubits, with at most 64 variables together and room for the terms
+pub record Buildable (n : ℕ) (first second ss cs : List ℕ) : Type 0 where
+  pub few : n ≤ 16
+  pub threes : length first % 3 ≡ 0
+  pub threes′ : length second % 3 ≡ 0
+  pub within : AllWithin n (gatesIn first)
+  pub within′ : AllWithin n (gatesIn second)
+  pub variables : n + (hGates (gatesIn first) + hGates (gatesIn second)) ≤ mostVariables
+  pub sets : room (gatesIn first) (gatesIn second) ≤ length ss
+  pub coeffs : room (gatesIn first) (gatesIn second) ≤ length cs
+
+-- a sum and the workspaces that it leaves stand for the path sum u on n qubits, m places having been in use
+pub record Shows (u : PathSum) (n m : ℕ) (r : Sum) (ss cs ss′ cs′ : List ℕ) : Type 0 where
+  pub qubits : r .n ≡ n
+  pub next : r .next ≡ n + length (u .live)
+  pub constant : r .phase .constant ≡ u .phase .constant
+  pub wires : wiresOf n (r .wires) ≡ u .wires
+  pub terms : Stored m (u .phase .terms) (r .phase .count) ss cs ss′ cs′

@@ -1,0 +1,90 @@
+-- Terms in two lent workspaces: the sets in one, the coefficients in the other, the terms in the first places of both. Document
+-- 01, "Building the sum" and "Report, pick, builder".
+-- Assumes nothing.
+use mathlib.Core.Path.{_≡_}
+use Prim.Native.Nat.{ℕ, _-_}
+use mathlib.Core.Bool.{Bool}
+use mathlib.Core.List.{List, [], _∷_, _++_, map}
+use lib.ListN.{length, take, drop, replicate}
+use Rattle.phase_sum_meaning.specs.Sets.{from}
+use Rattle.phase_sum_meaning.specs.Parity.{Parity, of}
+use Rattle.phase_sum_meaning.specs.Phase as phase
+use Rattle.phase_sum_meaning.specs.Phase.{Term, term, rebuild}
+use Rattle.phase_sum_meaning.specs.Building.{PathSum}
+use Rattle.phase_sum_terms.specs.declared.Phase.{Phase}
+use Rattle.phase_sum_terms.specs.declared.Wire.{Wire}
+use Rattle.phase_sum_terms.specs.declared.Wires.{Wires}
+use Rattle.phase_sum_terms.specs.declared.Sum.{Sum}
+
+-- terms by their sets and coefficients
+unfoldable pub zipTerms : List ℕ → List ℕ → List Term
+zipTerms [] cs = []
+zipTerms (s ∷ ss) [] = []
+zipTerms (s ∷ ss) (c ∷ cs) = term s c ∷ zipTerms ss cs
+
+-- the terms in the first m places, in the order in which they stand
+abbrev pub held : ℕ → List ℕ → List ℕ → List Term
+held m sets coeffs = zipTerms (take m sets) (take m coeffs)
+
+-- the sets of terms
+abbrev pub setsOf : List Term → List ℕ
+setsOf ts = map (λ t. t .set) ts
+
+-- the coefficients of terms
+abbrev pub coeffsOf : List Term → List ℕ
+coeffsOf ts = map (λ t. t .coeff) ts
+
+-- values over the front of a workspace of which m places were in use: zeros up to m, and behind all as it was
+unfoldable pub over : ℕ → List ℕ → List ℕ → List ℕ
+over m xs old = xs ++ replicate (m - length xs) 0 ++ drop (length (xs ++ replicate (m - length xs) 0)) old
+
+-- what a call leaves that was lent workspaces of which m places were in use: these terms at the front and their count, zeros up
+-- to m, and behind all as it was
+pub record Stored (m : ℕ) (ts : List Term) (count : ℕ) (ss cs ss′ cs′ : List ℕ) : Type 0 where
+  pub counted : count ≡ length ts
+  pub sets : ss′ ≡ over m (setsOf ts) ss
+  pub coeffs : cs′ ≡ over m (coeffsOf ts) cs
+
+-- terms in any order, merged into canonical form
+abbrev pub merged : List Term → List Term
+merged ts = rebuild of 0 ts .terms
+
+-- the phase that a count of terms in the workspaces stands for
+abbrev pub phaseOf : Phase → List ℕ → List ℕ → phase.Phase
+phaseOf p ss cs = record { constant = p .constant; terms = held (p .count) ss cs }
+
+-- what a call leaves that was lent workspaces of which m places were in use: the phase φ
+pub record Phased (φ : phase.Phase) (m : ℕ) (r : Phase) (ss cs ss′ cs′ : List ℕ) : Type 0 where
+  pub constant : r .constant ≡ φ .constant
+  pub terms : Stored m (φ .terms) (r .count) ss cs ss′ cs′
+
+-- what a call leaves that sent each term's set to a parity and merged anew
+abbrev pub Rebuilt : (ℕ → Parity) → Phase → Phase → List ℕ → List ℕ → List ℕ → List ℕ → Type 0
+Rebuilt f p r ss cs ss′ cs′ = Phased (rebuild f (p .constant) (held (p .count) ss cs)) (p .count) r ss cs ss′ cs′
+
+-- a path sum of a phase alone
+abbrev pub alone : phase.Phase → PathSum
+alone φ = record { phase = φ; wires = []; live = [] }
+
+-- a wire's parity
+abbrev pub parityOf : Wire → Parity
+parityOf w = record { vars = w .set; flipped = w .flipped }
+
+-- parities by their sets and constants
+unfoldable pub zipWires : List ℕ → List Bool → List Parity
+zipWires [] bs = []
+zipWires (s ∷ ss) [] = []
+zipWires (s ∷ ss) (b ∷ bs) = record { vars = s; flipped = b } ∷ zipWires ss bs
+
+-- the parities of the first n wires
+abbrev pub wiresOf : ℕ → Wires → List Parity
+wiresOf n w = zipWires (take n (w .sets)) (take n (w .flips))
+
+-- the path sum that a sum under construction stands for, its terms in the order in which they stand in the workspaces
+abbrev pub sumOf : Sum → List ℕ → List ℕ → PathSum
+sumOf s sets coeffs =
+    record {
+      phase = record { constant = s .phase .constant; terms = held (s .phase .count) sets coeffs };
+      wires = wiresOf (s .n) (s .wires);
+      live = from (s .n) (s .next - s .n);
+    }
