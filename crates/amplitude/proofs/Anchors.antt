@@ -1,13 +1,57 @@
--- Single amplitudes, by computation: facts that pin the conventions of the definitions.
+-- Numbers in their coordinates, gates of every kind counted, and single amplitudes, by computation: facts that pin the conventions of the
+-- definitions.
 -- Assumes nothing.
 use mathlib.Core.Path.{_≡_, refl}
 use mathlib.Core.Bool.{xor}
-use mathlib.Core.List.{[], _∷_}
-use Rattle.record_format.specs.Gate.{one, two, X, Y, Z, T, H, CX, SWAP}
-use Rattle.amplitude.specs.Number.{whole, 0ω, 1ω, _+ω_, neg, mulω, ω^, mul√2, √2^}
+use mathlib.Core.List.{[], _∷_, map}
+use lib.IntN.{ℤ, pos, negℤ}
+use Rattle.record_format.specs.Gate.{everyKind, one, two, X, Y, Z, T, H, CX, SWAP}
+use Rattle.amplitude.specs.Number.{Zω, whole, 0ω, 1ω, _+ω_, neg, mulω, ω^, mul√2, √2^}
 use Rattle.amplitude.specs.Bits.{bit, put}
 use Rattle.amplitude.specs.Matrix.{matrix, entry, times}
-use Rattle.amplitude.specs.Circuit.{basis, apply, run, column}
+use Rattle.amplitude.specs.Circuit.{basis, apply, run, column, tally, isH, isT, hGates, tGates}
+
+-- a number by its coordinates: a + bω + cω² + dω³
+abbrev coordinates : ℤ → ℤ → ℤ → ℤ → Zω
+coordinates a b c d = record { a = a; b = b; c = c; d = d }
+
+-- 1 is 1 + 0ω + 0ω² + 0ω³
+pub one-is : 1ω ≡ coordinates (pos 1) (pos 0) (pos 0) (pos 0)
+unfolding 1ω whole
+one-is = refl
+
+-- ω is its own coordinate
+pub ω-is : ω^ 1 1ω ≡ coordinates (pos 0) (pos 1) (pos 0) (pos 0)
+unfolding ω^ mulω 1ω whole
+ω-is = refl
+
+-- so is ω²
+pub ω²-is : ω^ 2 1ω ≡ coordinates (pos 0) (pos 0) (pos 1) (pos 0)
+unfolding ω^ mulω 1ω whole
+ω²-is = refl
+
+-- √2 is ω − ω³
+pub √2-is : √2^ 1 1ω ≡ coordinates (pos 0) (pos 1) (pos 0) (negℤ (pos 1))
+unfolding √2^ mul√2 ω^ mulω 1ω whole neg _+ω_
+√2-is = refl
+
+-- of one gate of each kind, from 0 to 10, those that count as T: kinds 5 and 6
+pub t-kinds : map isT everyKind ≡ 0 ∷ 0 ∷ 0 ∷ 0 ∷ 0 ∷ 1 ∷ 1 ∷ 0 ∷ 0 ∷ 0 ∷ 0 ∷ []
+t-kinds = refl
+
+-- and those that count as H: kind 7
+pub h-kinds : map isH everyKind ≡ 0 ∷ 0 ∷ 0 ∷ 0 ∷ 0 ∷ 0 ∷ 0 ∷ 1 ∷ 0 ∷ 0 ∷ 0 ∷ []
+h-kinds = refl
+
+-- so among them are two T gates
+pub t-gates-of-every-kind : tGates everyKind ≡ 2
+unfolding tally
+t-gates-of-every-kind = refl
+
+-- and one H gate
+pub h-gates-of-every-kind : hGates everyKind ≡ 1
+unfolding tally
+h-gates-of-every-kind = refl
 
 -- ω⁴ is −1
 pub fourth-power : ω^ 4 1ω ≡ neg 1ω

@@ -152,12 +152,3 @@ pub fits-unique : (n : ℕ) (first second : List Gate) (v i j : ℕ) → AllWith
 fits-unique n first second v i j l r b one other =
     ω^-unique i j (column (first ++ inverseList second) v v) (λ e. zero-diagonal n first second v i l r b e one)
     (fits-turned n first second v i l r b one ∙ sym (fits-turned n first second v j l r b other))
-
--- the power counts modulo 8
-pub fits-mod : (n : ℕ) (first second : List Gate) (v j : ℕ) → Fits n j first second v ↔ Fits n (j % 8) first second v
-fits-mod n first second v j = (λ fits w below. ω^-mod j _ ∙ fits w below, λ fits w below. sym (ω^-mod j _) ∙ fits w below)
-
--- a power of ω carries the first list to the second exactly where it carries each column
-pub carries-by-columns : (n : ℕ) (first second : List Gate) (j : ℕ) →
-    Carries n j first second ↔ ((v : ℕ) → v < 2 ^ n → Fits n j first second v)
-carries-by-columns n first second j = (λ carries. carries, λ columns. columns)

@@ -29,12 +29,6 @@ linear-ω^ k = record { zero = ω^-0ω k; sum = ω^-+ω k; turn = ω^-comm k }
 pub linear-√2^ : (k : ℕ) → Linear (√2^ k)
 linear-√2^ k = record { zero = √2^-0ω k; sum = √2^-+ω k; turn = √2^-ω^ k }
 
--- an entry times a sum
-pub times-+ω : (e : Entry) (x y : Zω) → times e (x +ω y) ≡ times e x +ω times e y
-unfolding times
-times-+ω O x y = sym (+ω-idl 0ω)
-times-+ω (ω k) x y = ω^-+ω k x y
-
 -- an entry times 0
 pub times-0ω : (e : Entry) → times e 0ω ≡ 0ω
 unfolding times
@@ -62,18 +56,6 @@ pub apply-one : (u : OneQubit) (q : ℕ) (ψ : State) (b : Bool) (w : ℕ) →
 unfolding apply
 apply-one u q ψ b w = simp (bit-put-same, put-put-same)
 
--- a gate takes a sum of states to the sum of its results
-pub apply-+ω : (g : Gate) (φ ψ : State) → apply g (λ w. φ w +ω ψ w) ≡ (λ w. apply g φ w +ω apply g ψ w)
-unfolding apply
-apply-+ω (one u q) φ ψ = fun-ext (λ w. simp times-+ω (+ω-swap _ _ _ _))
-apply-+ω (two CX a b) φ ψ = refl
-apply-+ω (two CZ a b) φ ψ = fun-ext (λ w. go (bit a w && bit b w) (φ w) (ψ w))
-  where
-    go : (t : Bool) (x y : Zω) → cond t (ω^ 4 (x +ω y)) (x +ω y) ≡ cond t (ω^ 4 x) x +ω cond t (ω^ 4 y) y
-    go true x y = ω^-+ω 4 x y
-    go false x y = refl
-apply-+ω (two SWAP a b) φ ψ = refl
-
 -- a gate commutes with a linear map
 pub apply-linear : (f : Zω → Zω) → Linear f → (g : Gate) (ψ : State) → apply g (λ w. f (ψ w)) ≡ (λ w. f (apply g ψ w))
 unfolding apply
@@ -89,12 +71,6 @@ apply-linear f l (two SWAP a b) ψ = refl
 -- a gate commutes with a power of √2
 pub apply-√2^ : (k : ℕ) (g : Gate) (ψ : State) → apply g (λ w. √2^ k (ψ w)) ≡ (λ w. √2^ k (apply g ψ w))
 apply-√2^ k g ψ = apply-linear (√2^ k) (linear-√2^ k) g ψ
-
--- a list takes a sum of states to the sum of its results
-pub run-+ω : (gs : List Gate) (φ ψ : State) → run gs (λ w. φ w +ω ψ w) ≡ (λ w. run gs φ w +ω run gs ψ w)
-unfolding run
-run-+ω [] φ ψ = refl
-run-+ω (g ∷ gs) φ ψ = ap (run gs) (apply-+ω g φ ψ) ∙ run-+ω gs (apply g φ) (apply g ψ)
 
 -- a list commutes with a linear map
 pub run-linear : (f : Zω → Zω) → Linear f → (gs : List Gate) (ψ : State) → run gs (λ w. f (ψ w)) ≡ (λ w. f (run gs ψ w))

@@ -70,11 +70,6 @@ sq-zero (pos zero) h = refl
 sq-zero (pos (suc n)) h = absurd (omega (arith, suc-mul n (suc n)))
 sq-zero (negsuc n) h = absurd (omega (arith, suc-mul n (suc n)))
 
--- a negative has the same size
-pub norm-neg : (z : Zω) → norm (neg z) ≡ norm z
-unfolding norm neg
-norm-neg z = rw (sq-negℤ (z .a), sq-negℤ (z .b), sq-negℤ (z .c), sq-negℤ (z .d))
-
 -- ω keeps the size
 pub norm-mulω : (z : Zω) → norm (mulω z) ≡ norm z
 unfolding norm mulω

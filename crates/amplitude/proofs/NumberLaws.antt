@@ -37,10 +37,6 @@ pub +ω-invr : (x : Zω) → x +ω neg x ≡ 0ω
 unfolding _+ω_ neg 0ω whole
 +ω-invr x = zω≡ (+ℤ-invr (x .a)) (+ℤ-invr (x .b)) (+ℤ-invr (x .c)) (+ℤ-invr (x .d))
 
--- the negative first
-pub +ω-invl : (x : Zω) → neg x +ω x ≡ 0ω
-+ω-invl x = +ω-comm (neg x) x ∙ +ω-invr x
-
 -- the middle two of four summands exchanged
 pub +ω-swap : (x y z t : Zω) → (x +ω y) +ω (z +ω t) ≡ (x +ω z) +ω (y +ω t)
 +ω-swap x y z t =

@@ -3,12 +3,12 @@
 -- Assumes nothing.
 use mathlib.Core.Path.{_≡_}
 use Prim.Native.Nat.{ℕ, _+_, _^_, _<_}
-use mathlib.Core.Bool.{true, false, cond, _&&_, _||_, xor}
+use mathlib.Core.Bool.{true, false, cond, _&&_, xor}
 use mathlib.Core.List.{List, [], _∷_}
 use lib.Dec.{eqb}
-use Rattle.record_format.specs.Gate.{Gate, one, two, CX, CZ, SWAP, oneQubitKind}
+use Rattle.record_format.specs.Gate.{Gate, one, two, X, Y, Z, S, S†, T, T†, H, CX, CZ, SWAP}
 use Rattle.amplitude.specs.Number.{Zω, 0ω, 1ω, _+ω_, ω^, √2^}
-use Rattle.amplitude.specs.Bits.{digit, bit, put}
+use Rattle.amplitude.specs.Bits.{bit, put}
 use Rattle.amplitude.specs.Matrix.{matrix, entry, times}
 
 -- an amplitude for each output's number
@@ -42,15 +42,33 @@ unfoldable pub tally : (Gate → ℕ) → List Gate → ℕ
 tally weight [] = 0
 tally weight (g ∷ gs) = weight g + tally weight gs
 
--- 1 for an H gate, kind 7
+-- 1 for an H gate
 abbrev pub isH : Gate → ℕ
-isH (one u q) = digit (eqb (oneQubitKind u) 7)
-isH (two v a b) = 0
+isH (one X q) = 0
+isH (one Y q) = 0
+isH (one Z q) = 0
+isH (one S q) = 0
+isH (one S† q) = 0
+isH (one T q) = 0
+isH (one T† q) = 0
+isH (one H q) = 1
+isH (two CX a b) = 0
+isH (two CZ a b) = 0
+isH (two SWAP a b) = 0
 
--- 1 for a T gate or its inverse, kinds 5 and 6
+-- 1 for a T gate or its inverse
 abbrev pub isT : Gate → ℕ
-isT (one u q) = digit (eqb (oneQubitKind u) 5 || eqb (oneQubitKind u) 6)
-isT (two v a b) = 0
+isT (one X q) = 0
+isT (one Y q) = 0
+isT (one Z q) = 0
+isT (one S q) = 0
+isT (one S† q) = 0
+isT (one T q) = 1
+isT (one T† q) = 1
+isT (one H q) = 0
+isT (two CX a b) = 0
+isT (two CZ a b) = 0
+isT (two SWAP a b) = 0
 
 -- the H gates of a list
 abbrev pub hGates : List Gate → ℕ

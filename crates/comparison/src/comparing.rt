@@ -9,7 +9,7 @@ ghost use Rattle.phase_sum_terms.specs.Unmerged.{gatesIn, Buildable};
 ghost use Rattle.comparison_meaning.specs.Reduction.{reduceEnd};
 ghost use Rattle.comparison_meaning.specs.Verdict.{compare};
 ghost use Rattle.comparison_types.specs.Call.{resultOf, saidOf, comparison, leftBy};
-ghost use Rattle.comparison_types.specs.Clauses.{Sound, Stops, Clifford, CountsUp};
+ghost use Rattle.comparison_types.specs.Clauses.{Sound, Stops, Inputs, Clifford, CountsUp};
 ghost use Rattle.comparison_types.specs.Inner.{members, sumBuilt, sumOf, endOf, Sized, Kept, Follows, FewSteps};
 use comparison_checking::PLACES;
 use comparison_checking::check_pair;
@@ -97,6 +97,7 @@ pub fn compare(first: &[u8], second: &[u8], sets: &mut [u64], coeffs: &mut [u8])
     ensures kept { λ r. ⌜ (now (sets .exit) ≡ leftBy (saidOf r) (now (sets .entry))) × (now (coeffs .exit) ≡ leftBy (saidOf r) (now (coeffs .entry))) ⌝ }
     ensures sound { λ r. ⌜ Sound (now (first .entry)) (now (second .entry)) r ⌝ }
     ensures stops { λ r. ⌜ Stops (now (first .entry)) (now (second .entry)) r ⌝ }
+    ensures inputs { λ r. ⌜ Inputs (now (first .entry)) (now (second .entry)) r ⌝ }
     ensures clifford { λ r. ⌜ Clifford (now (first .entry)) (now (second .entry)) r ⌝ }
     ensures counts { λ r. ⌜ CountsUp (now (first .entry)) (now (second .entry)) r ⌝ }
 {

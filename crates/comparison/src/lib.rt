@@ -11,4 +11,6 @@ pub use comparison_types::Outcome;
 pub use comparison_types::Refusal;
 pub use comparison_types::Verdict;
 pub use comparison_types::number;
+pub use comparison_types::report_of;
+pub use comparison_types::verdict_number;
 pub use picking::pick;

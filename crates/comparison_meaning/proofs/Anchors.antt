@@ -1,6 +1,6 @@
 -- The pairs of specs/Table.antt, proved by computation: each table jointly.
 -- Assumes nothing.
-use mathlib.Core.Path.{refl}
+use mathlib.Core.Path.{_≡_, refl}
 use mathlib.Core.Bool.{xor}
 use Rattle.record_format.specs.Gate.{inverseKind, inverseGate, inverseList}
 use Rattle.amplitude.specs.Bits.{bit}
@@ -10,8 +10,14 @@ use Rattle.phase_sum_meaning.specs.Phase.{sumAt, phaseAt, keep, merge, addTerm,
 use Rattle.phase_sum_meaning.specs.Building.{input, initial, setWire, withPhase, hadamard, gate, gatesFrom, build}
 use Rattle.phase_sum_meaning.specs.Stepping.{replace, coeffs, outOf, oddHalves, takeOut, turned, kindOf}
 use Rattle.comparison_meaning.specs.Reduction.{addPin, addSum, addTurn, addJoin, pinFrom, stepWith, reduceFrom, reduceEnd}
-use Rattle.comparison_meaning.specs.Verdict.{weight, blockedInput, searched, judge, compare}
+use Rattle.comparison_meaning.specs.Verdict.{Verdict, equal, different, undecided, number, numbered, weight, blockedInput, searched, judge, compare}
 use Rattle.comparison_meaning.specs.Table.{AllRight, rows, choices}
+
+-- a verdict's number tells it
+pub number-tells : (v : Verdict) → numbered (number v) ≡ v
+number-tells equal = refl
+number-tells different = refl
+number-tells undecided = refl
 
 -- the comparison gives document 01's results
 pub p-rows : AllRight rows
@@ -27,4 +33,4 @@ unfolding xor inverseKind inverseGate inverseList bit _△_ xorUpTo parityUpTo p
     phaseAt keep merge addTerm addConstant addPhase rebuild inOdd input initial setWire withPhase hadamard gate gatesFrom build
     replace coeffs outOf oddHalves takeOut turned kindOf addPin addSum addTurn addJoin pinFrom stepWith reduceFrom
     reduceEnd weight blockedInput searched judge compare
-choice-rows = (refl, (refl, (refl, (refl, (refl, (refl, (refl, (refl, (refl, (refl, (refl, tt)))))))))))
+choice-rows = (refl, (refl, (refl, (refl, (refl, (refl, (refl, (refl, (refl, (refl, (refl, (refl, tt))))))))))))

@@ -6,6 +6,7 @@ pub mod Pinning
 pub mod Reducing
 pub mod Bare
 pub mod Reached
+pub mod Course
 pub mod Outcomes
 pub mod Theorems
 pub mod Bytes

@@ -18,89 +18,47 @@ use Rattle.phase_sum_meaning.proofs.Wellformed.{Good}
 use Rattle.phase_sum_meaning.proofs.Evenness.{OddIn, Inputs}
 use Rattle.comparison_meaning.specs.Reduction.{End, reduceFrom, reduceEnd}
 use Rattle.comparison_meaning.specs.Steps.{Steps, Blocked}
+use Rattle.comparison_meaning.specs.Course.{Continues, further, halted, Done, Judged, blocked, unready, unsized, found, same, Shown, shows}
 use Rattle.comparison_meaning.specs.Verdict.{candidates, firstDiffering, Verdict, equal, different, undecided, Result, left, result, blockedInput, searched, judge}
-use Rattle.comparison_meaning.proofs.Reducing.{reduce-steps, reduce-stops, even-decides, reduce-blocks}
+use Rattle.comparison_meaning.proofs.Reducing.{reduces-from, reduce-steps, reduce-stops, even-decides, reduce-blocks}
 
--- the two ways on from a pinned sum: reduced where pinning went through, left as it is where pinning was blocked
-pub data Reduced (p : End) : End → Type 0 where
-  further : p .blockedBy ≡ none → Reduced p (reduceFrom (length (p .sum .live)) (p .sum) (p .counts))
-  halted : {q : Parity} → p .blockedBy ≡ some q → Reduced p p
-
--- reducing goes one of them
-pub reduces : (p : End) → Reduced p (reduceEnd p)
+-- reducing what pinning left is document 01's course
+pub continues : (n : ℕ) (p : End) → Good n (p .sum) → Continues n p (reduceEnd p)
 unfolding reduceEnd
-reduces p = go (p .blockedBy) refl
+continues n p good = go (p .blockedBy) refl
   where
     go :
         (b : Option Parity)
         → p .blockedBy ≡ b
-        → Reduced p (elim b [ none ↦ reduceFrom (length (p .sum .live)) (p .sum) (p .counts) | some q ↦ p ])
-    go none h = further h
+        → Continues n p (elim b [ none ↦ reduceFrom (length (p .sum .live)) (p .sum) (p .counts) | some q ↦ p ])
+    go none h = further h (reduces-from n (length (p .sum .live)) (p .sum) (p .counts) good (omega arith))
     go (some q) h = halted h
 
--- either way its end is reached by steps
-pub reduced-steps : {p e : End} → Reduced p e → Steps (p .sum) (p .counts) (e .sum) (e .counts)
-reduced-steps {p} (further h) = reduce-steps (length (p .sum .live)) (p .sum) (p .counts)
+-- its end is reached by steps
+pub reduced-steps : {n : ℕ} {p e : End} → Continues n p e → Steps (p .sum) (p .counts) (e .sum) (e .counts)
+reduced-steps (further h r) = reduce-steps r
 reduced-steps (halted h) = Steps.none
 
 -- an end that is not blocked comes of pinning that went through
-pub reduced-through : {p e : End} → Reduced p e → e .blockedBy ≡ none → p .blockedBy ≡ none
-reduced-through (further h) free = h
+pub reduced-through : {n : ℕ} {p e : End} → Continues n p e → e .blockedBy ≡ none → p .blockedBy ≡ none
+reduced-through (further h r) free = h
 reduced-through (halted h) free = free
 
 -- at an end that is not blocked no live variable is ready
-pub reduced-stops :
-    (n : ℕ) {p e : End}
-    → Reduced p e
-    → Good n (p .sum)
-    → e .blockedBy ≡ none
-    → (y : ℕ)
-    → Among y (e .sum .live)
-    → inOdd y (e .sum .phase .terms) ≡ true
-reduced-stops n {p} (further h) good free = reduce-stops n (length (p .sum .live)) (p .sum) (p .counts) good (omega arith) free
-reduced-stops n (halted {q} h) good free = absurd (Option·some-ne-none q (sym h ∙ free))
+pub reduced-stops : {n : ℕ} {p e : End} → Continues n p e → e .blockedBy ≡ none → (y : ℕ) → Among y (e .sum .live) → inOdd y (e .sum .phase .terms) ≡ true
+reduced-stops (further h r) free = reduce-stops r free
+reduced-stops (halted {q} h) free = absurd (Option·some-ne-none q (sym h ∙ free))
 
 -- at an end that a step blocks, a ready variable's step cannot be taken
-pub reduced-blocked : {p e : End} {q : Parity} → Reduced p e → p .blockedBy ≡ none → e .blockedBy ≡ some q → Blocked (e .sum) q
-reduced-blocked {p} {q} (further h) through b = reduce-blocks (length (p .sum .live)) (p .sum) (p .counts) q b
+pub reduced-blocked : {n : ℕ} {p e : End} {q : Parity} → Continues n p e → p .blockedBy ≡ none → e .blockedBy ≡ some q → Blocked (e .sum) q
+reduced-blocked (further h r) through b = reduce-blocks r b
 reduced-blocked (halted {q} h) through b = absurd (Option·some-ne-none q (sym h ∙ through))
 
 -- at an end that is not blocked none is left, where every odd coefficient of the pinned sum is on inputs alone
 pub reduced-even :
-    (n : ℕ) {p e : End}
-    → Reduced p e
-    → Good n (p .sum)
-    → OddIn (Inputs n) (p .sum .phase .terms)
-    → e .blockedBy ≡ none
-    → e .sum .live ≡ []
-reduced-even n {p} (further h) good even free = even-decides n (length (p .sum .live)) (p .sum) (p .counts) good (omega arith) even free
-reduced-even n (halted {q} h) good even free = absurd (Option·some-ne-none q (sym h ∙ free))
-
--- not blocked, and no path variable left
-abbrev pub Done : End → Type 0
-Done e = (e .blockedBy ≡ none) × (e .sum .live ≡ [])
-
--- the reasons for a verdict on the end e with its two inputs: a parity is blocked; path variables are left; none is, and pins and
--- sums differ, or the phase differs at an input, or it does not
-pub data Judged (scratch n : ℕ) (e : End) : Verdict → ℕ → ℕ → Type 0 where
-  blocked : {q : Parity} → e .blockedBy ≡ some q → Judged scratch n e different (blockedInput n q) (blockedInput n q)
-  unready : e .blockedBy ≡ none → (e .sum .live ≡ [] → ⊥) → Judged scratch n e undecided 0 0
-  unsized : Done e → (e .counts .pins ≡ e .counts .sums → ⊥) → Judged scratch n e different 0 0
-  found :
-      {v : ℕ}
-      → Done e
-      → e .counts .pins ≡ e .counts .sums
-      → firstDiffering (e .sum .phase) (candidates scratch n) ≡ some v
-      → Judged scratch n e different 0 v
-  same :
-      Done e
-      → e .counts .pins ≡ e .counts .sums
-      → firstDiffering (e .sum .phase) (candidates scratch n) ≡ none
-      → Judged scratch n e equal 0 0
-
--- a result with such a verdict, and with the counts of the end
-pub data Shown (scratch n : ℕ) (e : End) : Result → Type 0 where
-  shows : {v : Verdict} {a b : ℕ} → Judged scratch n e v a b → Shown scratch n e (result v a b e)
+    {n : ℕ} {p e : End} → Continues n p e → Good n (p .sum) → OddIn (Inputs n) (p .sum .phase .terms) → e .blockedBy ≡ none → e .sum .live ≡ []
+reduced-even {n} {p} {e} (further h r) good even free = even-decides n (p .sum) (p .counts) e good r even free
+reduced-even (halted {q} h) good even free = absurd (Option·some-ne-none q (sym h ∙ free))
 
 -- the verdict on an end has one of these reasons
 pub judges : (scratch n : ℕ) (e : End) → Shown scratch n e (judge scratch n e)

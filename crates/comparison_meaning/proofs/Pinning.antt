@@ -2,6 +2,7 @@
 -- diagonal is the sum of the phase alone; where it is blocked, the diagonal is 0 at an input that makes the blocked parity 1.
 -- Assumes nothing.
 use mathlib.Core.Path.{_≡_, refl, sym, _∙_, ap, fun-ext}
+use mathlib.Core.Logic.{⊎-elim}
 use mathlib.Core.Bool.{Bool, true, false, not, xor, and-eq-true-iff, true≢false}
 use mathlib.Core.List.{List}
 use mathlib.Core.Option.{Option, none, some, Option·some-injective, Option·none-ne-some, Option·some-ne-none}
@@ -28,28 +29,23 @@ use Rattle.phase_sum_meaning.proofs.VariableLaws.{firstSuch-some, firstSuch-non
 use Rattle.phase_sum_meaning.proofs.ParityLaws.{value-⊕, value-flip}
 use Rattle.phase_sum_meaning.proofs.Summing.{sumOver-without, sumOver-on, sumOver-zero}
 use Rattle.phase_sum_meaning.proofs.Replacing.{pin-law, pinned-wire, kept-wire, input-free, closes-open}
-use Rattle.phase_sum_meaning.proofs.Wellformed.{Holds, Good, GoodWires, good-build, good-replace, good-wires-replace, live-replace, holds-mismatch}
+use Rattle.phase_sum_meaning.proofs.Wellformed.{Holds, Good, GoodWires, good-build, good-replace, good-wires-replace, live-replace, holds-mismatch, holds-inputs, holds-lowest}
 use Rattle.phase_sum_meaning.proofs.Evenness.{NoOdd, noOdd-replace}
 use Rattle.phase_sum_meaning.proofs.Roominess.{terms-replace}
 use Rattle.phase_sum_meaning.proofs.Built.{reads, meaning, xor-solve, one-or-others, value-input, built}
 use Rattle.comparison_meaning.specs.Reduction.{Counts, counts, addPin, End, isZero, mismatch, pinFrom, pinned}
 use Rattle.comparison_meaning.specs.Verdict.{blockedInput}
+use Rattle.comparison_meaning.specs.Course.{PathVariable, NoPathVariable, Pins, every-qubit, pins, agrees, unpinnable}
 use Rattle.phase_sum_meaning.proofs.ParityLaws.{value-agree}
-use Rattle.phase_sum_meaning.proofs.Wellformed.{holds-inputs}
 
 -- the wires below q are their inputs
 abbrev pub Settled : ℕ → ℕ → PathSum → Type 0
 Settled scratch q s = (p : ℕ) → p < q → wire p s ≡ input scratch p
 
--- q blocks the sum s on n qubits: it is a wire's mismatch, holds no live variable and is not constantly 0
+-- q blocks the sum s on n qubits: it is a wire's mismatch, holds no path variable and is not constantly 0
 abbrev pub Blocking : ℕ → ℕ → PathSum → Parity → Type 0
 Blocking scratch n s q =
-    (p : ℕ)
-    × (p < n)
-    × (q ≡ mismatch scratch p s)
-    × (firstIn (s .live) (q .vars) ≡ none)
-    × (isZero q ≡ false)
-    × Holds n (s .live) (q .vars)
+    (p : ℕ) × (p < n) × (q ≡ mismatch scratch p s) × NoPathVariable n (q .vars) × (isZero q ≡ false)
 
 -- what pinning the sum s on n qubits, with the counts c, ends in
 pub record PinEnd (scratch n : ℕ) (s : PathSum) (c : Counts) (e : End) : Type 0 where
@@ -153,62 +149,88 @@ module _
           stuck = end .stuck;
         }
 
--- pinning the last m of n qubits, where the wires below them are their inputs
-pin-from :
+-- pinning the last m of n qubits is document 01's course
+pins-from :
     (scratch n m q : ℕ) (s : PathSum) (c : Counts) →
     q + m ≡ n →
     Good n s →
     GoodWires n s →
-    Settled scratch q s →
-    PinEnd scratch n s c (pinFrom scratch m q s c)
+    Pins scratch n q s c (pinFrom scratch m q s c)
 unfolding pinFrom
-pin-from scratch n zero q s c sum good wires below =
-    pin-halts scratch n none s c good (λ e p l. below p (omega arith)) (λ r e. absurd (Option·none-ne-some r e))
-pin-from scratch n (suc m) q s c sum good wires below =
-    go (firstIn (s .live) (Q .vars)) refl (λ t d. pin-from scratch n m (suc q) t d (omega arith))
+pins-from scratch n zero q s c sum good wires = let last : q ≡ n = omega arith in rw last every-qubit
+pins-from scratch n (suc m) q s c sum good wires =
+    go (firstIn (s .live) (Q .vars)) refl (λ t d. pins-from scratch n m (suc q) t d (omega arith))
   where
     Q : Parity
     Q = mismatch scratch q s
 
     Rest : Type 0
-    Rest =
-        (t : PathSum) (d : Counts) →
-        Good n t →
-        GoodWires n t →
-        Settled scratch (suc q) t →
-        PinEnd scratch n t d (pinFrom scratch m (suc q) t d)
+    Rest = (t : PathSum) (d : Counts) → Good n t → GoodWires n t → Pins scratch n (suc q) t d (pinFrom scratch m (suc q) t d)
+
+    below-n : q < n
+    below-n = omega arith
 
     holds : Holds n (s .live) (Q .vars)
-    holds = holds-mismatch scratch n q s (omega arith) wires
+    holds = holds-mismatch scratch n q s below-n wires
 
-    free : (b : Bool) → isZero Q ≡ b → firstIn (s .live) (Q .vars) ≡ none → Rest → PinEnd scratch n s c (pinFrom scratch (suc m) q s c)
-    free true z e later =
-        let new : wire q s ≡ input scratch q = zero-mismatch (wire q s) (input scratch q) z in
-        rw (e, pinFrom, z) (later s c good wires (settled-more scratch q s below new))
-    free false z e later =
-        rw (e, pinFrom, z)
-        (pin-halts scratch n (some Q) s c good (λ k. absurd (Option·some-ne-none Q k))
-        (λ r k. rw (← Option·some-injective Q r k) (q, omega arith, refl, e, z, holds)))
+    free : (b : Bool) → isZero Q ≡ b → firstIn (s .live) (Q .vars) ≡ none → Rest → Pins scratch n q s c (pinFrom scratch (suc m) q s c)
+    free b z e later =
+        let empty : NoPathVariable n (Q .vars) = λ v held. absurd (omega (arith, held .0, holds-inputs n (s .live) (Q .vars) holds e v (held .1))) in
+        ends b z empty
+      where
+        ends : (b : Bool) → isZero Q ≡ b → NoPathVariable n (Q .vars) → Pins scratch n q s c (pinFrom scratch (suc m) q s c)
+        ends true z empty = rw (e, pinFrom, z) (agrees below-n empty z (later s c good wires))
+        ends false z empty = rw (e, pinFrom, z) (unpinnable below-n empty z)
 
-    go : (f : Option ℕ) → firstIn (s .live) (Q .vars) ≡ f → Rest → PinEnd scratch n s c (pinFrom scratch (suc m) q s c)
+    go : (f : Option ℕ) → firstIn (s .live) (Q .vars) ≡ f → Rest → Pins scratch n q s c (pinFrom scratch (suc m) q s c)
     go none e later = free (isZero Q) refl e later
     go (some z) e later =
         let found = firstSuch-some (λ v. bit v (Q .vars)) (s .live) z e in
         rw (e, pinFrom)
-        (pin-first scratch n q z s (omega arith) good (found .0) (found .1) c _
+        (pins z below-n
+        (record { is = (good .above z (found .0), found .1); least = λ v held. holds-lowest n z s (Q .vars) good holds e v (held .0) (held .1) })
         (later (pinnedAt scratch q z s) (addPin c)
         (good-replace n z Q s good (found .0) (found .1) holds)
-        (good-wires-replace n z Q s good (found .0) (found .1) holds wires)
-        (pin-settles scratch n q z s (omega arith) good (found .0) (found .1) below)))
+        (good-wires-replace n z Q s good (found .0) (found .1) holds wires)))
 
--- pinning the sum of a list
-pub pin-ends :
-    (scratch n : ℕ) (gs : List Gate) →
-    AllWithin n gs →
-    PinEnd scratch n (build scratch n gs) (counts 0 0 0 0) (pinned scratch n (build scratch n gs))
-pin-ends scratch n gs within =
-    let good = good-build scratch n gs within in
-    pin-from scratch n n 0 (build scratch n gs) (counts 0 0 0 0) (omega arith) (good .0) (good .1) (λ p l. absurd (omega arith))
+-- a path variable of a set of inputs and live variables is live
+path-live : (n : ℕ) (live : List ℕ) (s z : ℕ) → Holds n live s → PathVariable n s z → Among z live
+path-live n live s z holds path = ⊎-elim (λ low. absurd (omega (arith, path .0))) (λ a. a) (holds z (path .1))
+
+-- what such a course ends in, where the wires below q are their inputs
+pins-end :
+    {scratch n q : ℕ} {s : PathSum} {c : Counts} {e : End} →
+    Pins scratch n q s c e →
+    Good n s →
+    GoodWires n s →
+    Settled scratch q s →
+    PinEnd scratch n s c e
+pins-end {scratch} {n} {s} {c} every-qubit good wires below =
+    pin-halts scratch n none s c good (λ e. below) (λ r e. absurd (Option·none-ne-some r e))
+pins-end {scratch} {n} {q} {s} {c} {e} (pins z l lowest later) good wires below =
+    let holds = holds-mismatch scratch n q s l wires in
+    let live = path-live n (s .live) (mismatch scratch q s .vars) z holds (lowest .is) in
+    let held = lowest .is .1 in
+    pin-first scratch n q z s l good live held c e
+    (pins-end later (good-replace n z (mismatch scratch q s) s good live held holds) (good-wires-replace n z (mismatch scratch q s) s good live held holds wires)
+    (pin-settles scratch n q z s l good live held below))
+pins-end {scratch} {n} {q} {s} (agrees l empty is-zero later) good wires below =
+    pins-end later good wires (settled-more scratch q s below (zero-mismatch (wire q s) (input scratch q) is-zero))
+pins-end {scratch} {n} {q} {s} {c} (unpinnable l empty nonzero) good wires below =
+    let Q = mismatch scratch q s in
+    pin-halts scratch n (some Q) s c good (λ k. absurd (Option·some-ne-none Q k))
+    (λ r k. rw (← Option·some-injective Q r k) (q, l, refl, empty, nonzero))
+
+module _ (scratch n : ℕ) (gs : List Gate) (within : AllWithin n gs) where
+  -- pinning the sum of a list is document 01's course
+  pub pins-course : Pins scratch n 0 (build scratch n gs) (counts 0 0 0 0) (pinned scratch n (build scratch n gs))
+  pins-course =
+      let good = good-build scratch n gs within in
+      pins-from scratch n n 0 (build scratch n gs) (counts 0 0 0 0) (omega arith) (good .0) (good .1)
+
+  -- and what it ends in
+  pub pin-ends : PinEnd scratch n (build scratch n gs) (counts 0 0 0 0) (pinned scratch n (build scratch n gs))
+  pin-ends = let good = good-build scratch n gs within in pins-end pins-course (good .0) (good .1) (λ p l. absurd (omega arith))
 
 -- where every wire is its input, every assignment closes
 closes-settled : (scratch n : ℕ) (s : PathSum) (x : ℕ) → Settled scratch n s → closes scratch n s x ≡ true
@@ -352,7 +374,11 @@ pin-blocked scratch n gs q within blocked clear = (
     stuck = end .stuck q blocked
 
     inputs : (v : ℕ) → bit v (q .vars) ≡ true → v < n
-    inputs = holds-inputs n (t .live) (q .vars) (stuck .5) (stuck .3)
+    inputs v h = below-n (ltb v n) refl
+      where
+        below-n : (b : Bool) → ltb v n ≡ b → v < n
+        below-n true e = ltb-true v n e
+        below-n false e = absurd (stuck .3 v (ltb-false v n e, h))
 
     makes : (u < 2 ^ n) × (value q u ≡ true)
     makes = blocked-input n q inputs (stuck .4)

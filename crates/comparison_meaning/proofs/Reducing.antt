@@ -20,14 +20,15 @@ use Rattle.phase_sum_meaning.specs.Phase.{Term, inOdd}
 use Rattle.phase_sum_meaning.specs.Building.{PathSum}
 use Rattle.phase_sum_meaning.specs.Stepping.{replace, firstReady, takeOut, turned, Kind, sum, turn, constraint, kindOf, constrained}
 use Rattle.phase_sum_meaning.specs.Meaning.{both, sumOver, phasor, remaining}
-use Rattle.phase_sum_meaning.proofs.VariableLaws.{firstSuch-some, firstSuch-none, without-among}
+use Rattle.phase_sum_meaning.proofs.VariableLaws.{firstSuch-some, firstSuch-none, firstSuch-lowest, without-among}
 use Rattle.phase_sum_meaning.proofs.Summing.{sumOver-√2^, sumOver-zero, sumOver-without, sumOver-on}
 use Rattle.phase_sum_meaning.proofs.StepLaws.{constraint-kind, sum-law, turn-law, constraint-law, join-law}
-use Rattle.phase_sum_meaning.proofs.Wellformed.{Good, good-takeOut, live-takeOut, good-turned, good-replace, live-replace, holds-oddHalves}
+use Rattle.phase_sum_meaning.proofs.Wellformed.{Good, good-takeOut, live-takeOut, good-turned, good-replace, live-replace, holds-oddHalves, holds-lowest}
 use Rattle.phase_sum_meaning.proofs.Evenness.{OddIn, Inputs, even-takeOut, even-turned, even-replace, even-ready}
 use Rattle.phase_sum_meaning.proofs.Roominess.{terms-takeOut, terms-turned, terms-replace}
 use Rattle.comparison_meaning.specs.Reduction.{Counts, addSum, addTurn, addJoin, End, stops, blocks, isZero, Next, goes, stuck, stepWith, stepAt, reduceFrom, factor}
 use Rattle.comparison_meaning.specs.Steps.{Ready, cOf, lOf, Step, sums, turns, joins, Steps, more, Blocked}
+use Rattle.comparison_meaning.specs.Course.{Lowest, PathVariable, NoPathVariable, TakesLowest, Reduces, none-ready, obstructed, steps-on}
 use Rattle.phase_sum_meaning.proofs.ParityLaws.{value-agree}
 
 -- what steps from s with counts c to t with counts d keep
@@ -112,102 +113,61 @@ steps-keep n s c u e g (more {t} {d} before step) =
       room = omega arith;
     }
 
--- what comes of a ready variable: a step, or a parity that blocks
-data Outcome (s : PathSum) (c : Counts) : Next → Type 0 where
-  takes : {t : PathSum} {d : Counts} → Step s c t d → Outcome s c (goes t d)
-  blocked : {q : Parity} → Blocked s q → Outcome s c (stuck q)
+-- a parity that blocks holds only inputs
+pub stuck-inputs : (n : ℕ) (s : PathSum) (q : Parity) → Good n s → Blocked s q → (v : ℕ) → bit v (q .vars) ≡ true → v < n
+stuck-inputs n s q g h v e =
+    let held : bit v (lOf (h .y) s) ≡ true = rw (h .same) at e in
+    ⊎-elim (λ low. low) (λ a. absurd (true≢false (sym held ∙ h .free v a)))
+    (holds-oddHalves (h .y) g v held)
 
--- a ready variable has one of the two outcomes
-outcome : (y : ℕ) (s : PathSum) (c : Counts) → Ready y s → Outcome s c (stepAt y s c)
+-- what comes of the lowest ready variable: a step, or a parity that blocks
+data Outcome (n : ℕ) (s : PathSum) (c : Counts) : Next → Type 0 where
+  takes : {t : PathSum} {d : Counts} (step : Step s c t d) → TakesLowest n step → Outcome n s c (goes t d)
+  blocked : {q : Parity} (b : Blocked s q) → Lowest (λ v. Ready v s) (b .y) → NoPathVariable n (q .vars) → Outcome n s c (stuck q)
+
+-- it has one of the two outcomes
+outcome : (n y : ℕ) (s : PathSum) (c : Counts) → Good n s → Lowest (λ v. Ready v s) y → Outcome n s c (stepAt y s c)
 unfolding stepWith
-outcome y s c ready = go (kindOf (cOf y s) (lOf y s)) refl
+outcome n y s c g lowest = go (kindOf (cOf y s) (lOf y s)) refl
   where
+    left : Good n (takeOut y s)
+    left = good-takeOut n y s g (lowest .is .0)
+
     constrains :
         kindOf (cOf y s) (lOf y s) ≡ constraint
         → (o : Option ℕ)
         → firstIn (takeOut y s .live) (lOf y s) ≡ o
-        → Outcome s c (stepAt y s c)
+        → Outcome n s c (stepAt y s c)
     constrains h none f =
-        rw (h, stepWith, f) (blocked (record { y = y; ready = ready; kind = h; same = refl; free = firstSuch-none (λ z. bit z (lOf y s)) (takeOut y s .live) f }))
+        let b : Blocked s (constrained (cOf y s) (lOf y s)) =
+        record { y = y; ready = lowest .is; kind = h; same = refl; free = firstSuch-none (λ z. bit z (lOf y s)) (takeOut y s .live) f } in
+        rw (h, stepWith, f) (blocked b lowest (λ v path. absurd (omega (arith, path .0, stuck-inputs n s _ g b v (path .1)))))
     constrains h (some z) f =
         let found = firstSuch-some (λ v. bit v (lOf y s)) (takeOut y s .live) z f in
-        rw (h, stepWith, f) (takes (joins y z ready h (found .0) (found .1)))
+        let least : (v : ℕ) → PathVariable n (lOf y s) v → z ≤ v =
+        λ v path. holds-lowest n z (takeOut y s) (lOf y s) left (holds-oddHalves y g) f v (path .0) (path .1) in
+        rw (h, stepWith, f)
+        (takes (joins y z (lowest .is) h (found .0) (found .1)) (lowest, record { is = (left .above z (found .0), found .1); least = least }))
 
-    go : (k : Kind) → kindOf (cOf y s) (lOf y s) ≡ k → Outcome s c (stepAt y s c)
-    go sum h = rw (h, stepWith) (takes (sums y ready h))
-    go turn h = rw (h, stepWith) (takes (turns y ready h))
+    go : (k : Kind) → kindOf (cOf y s) (lOf y s) ≡ k → Outcome n s c (stepAt y s c)
+    go sum h = rw (h, stepWith) (takes (sums y (lowest .is) h) lowest)
+    go turn h = rw (h, stepWith) (takes (turns y (lowest .is) h) lowest)
     go constraint h = constrains h (firstIn (takeOut y s .live) (lOf y s)) refl
 
--- a variable found ready is in the list, and in no term of odd coefficient
-firstReady-some : (ys : List ℕ) (ts : List Term) (y : ℕ) → firstReady ys ts ≡ some y → Among y ys × (inOdd y ts ≡ false)
-firstReady-some ys ts y e =
-    let found = firstSuch-some (λ u. not (inOdd u ts)) ys y e in
-    (found .0, not-true (inOdd y ts) (found .1))
+-- a variable found ready among the live ones is the lowest that is
+first-is-lowest : (n y : ℕ) (s : PathSum) → Good n s → firstReady (s .live) (s .phase .terms) ≡ some y → Lowest (λ v. Ready v s) y
+first-is-lowest n y s g e =
+    let test : ℕ → Bool = λ u. not (inOdd u (s .phase .terms)) in
+    let found = firstSuch-some test (s .live) y e in
+    record {
+      is = (found .0, not-true (inOdd y (s .phase .terms)) (found .1));
+      least = λ v ready. firstSuch-lowest test (s .live) y (g .rising) e v (ready .0) (rw (ready .1));
+    }
 
--- where there is none, each variable of the list is in one
-firstReady-none : (ys : List ℕ) (ts : List Term) → firstReady ys ts ≡ none → (y : ℕ) → Among y ys → inOdd y ts ≡ true
-firstReady-none ys ts e y a = not-false (inOdd y ts) (firstSuch-none (λ u. not (inOdd u ts)) ys e y a)
-
--- no live variable is ready
-abbrev NoneReady : PathSum → Type 0
-NoneReady s = (y : ℕ) → Among y (s .live) → inOdd y (s .phase .terms) ≡ true
-
--- a run of the reduction, with its end: its count is spent, no variable is ready, one blocks, or a step comes first
-data Run : ℕ → PathSum → Counts → End → Type 0 where
-  spent : {s : PathSum} {c : Counts} → Run zero s c (stops s c)
-  idle : {m : ℕ} {s : PathSum} {c : Counts} → NoneReady s → Run (suc m) s c (stops s c)
-  halt : {m : ℕ} {s : PathSum} {c : Counts} {q : Parity} → Blocked s q → Run (suc m) s c (blocks q s c)
-  next : {m : ℕ} {s t : PathSum} {c d : Counts} {e : End} → Step s c t d → Run m t d e → Run (suc m) s c e
-
--- the reduction is such a run
-run : (m : ℕ) (s : PathSum) (c : Counts) → Run m s c (reduceFrom m s c)
-unfolding reduceFrom
-run zero s c = spent
-run (suc m) s c = go (run m) (firstReady (s .live) (s .phase .terms)) refl
-  where
-    taken :
-        ((t : PathSum) (d : Counts) → Run m t d (reduceFrom m t d))
-        → {x : Next}
-        → Outcome s c x
-        → Run (suc m) s c (elim x [ goes t d ↦ reduceFrom m t d | stuck q ↦ blocks q s c ])
-    taken later (takes {t} {d} step) = next step (later t d)
-    taken later (blocked b) = halt b
-
-    go :
-        ((t : PathSum) (d : Counts) → Run m t d (reduceFrom m t d))
-        → (o : Option ℕ)
-        → firstReady (s .live) (s .phase .terms) ≡ o
-        → Run (suc m) s c (reduceFrom (suc m) s c)
-    go later none e = rw (e, reduceFrom) (idle (firstReady-none (s .live) (s .phase .terms) e))
-    go later (some y) e = rw (e, reduceFrom) (taken later (outcome y s c (firstReady-some (s .live) (s .phase .terms) y e)))
-
--- a step may come before others
-step-first : {s t u : PathSum} {c d e : Counts} → Step s c t d → Steps t d u e → Steps s c u e
-step-first step Steps.none = more Steps.none step
-step-first step (more before last) = more (step-first step before) last
-
--- a run takes steps to its end
-run-steps : {m : ℕ} {s : PathSum} {c : Counts} {e : End} → Run m s c e → Steps s c (e .sum) (e .counts)
-run-steps spent = Steps.none
-run-steps (idle none-ready) = Steps.none
-run-steps (halt b) = Steps.none
-run-steps (next step r) = step-first step (run-steps r)
-
--- so the reduction takes steps to its end
-pub reduce-steps : (m : ℕ) (s : PathSum) (c : Counts) → Steps s c (reduceFrom m s c .sum) (reduceFrom m s c .counts)
-reduce-steps m s c = run-steps (run m s c)
-
--- a run that is blocked ends where a variable is stuck
-run-blocks : {m : ℕ} {s : PathSum} {c : Counts} {e : End} {q : Parity} → Run m s c e → e .blockedBy ≡ some q → Blocked (e .sum) q
-run-blocks {q} spent b = absurd (Option·none-ne-some q b)
-run-blocks {q} (idle none-ready) b = absurd (Option·none-ne-some q b)
-run-blocks {s} {q} (halt {q = p} h) b = rw (Option·some-injective p q b) at h
-run-blocks (next step r) b = run-blocks r b
-
--- so where the reduction is blocked, a variable is stuck by the parity that blocks it
-pub reduce-blocks :
-    (m : ℕ) (s : PathSum) (c : Counts) (q : Parity) → reduceFrom m s c .blockedBy ≡ some q → Blocked (reduceFrom m s c .sum) q
-reduce-blocks m s c q b = run-blocks (run m s c) b
+-- where none is found, none is ready
+none-is-ready : (s : PathSum) → firstReady (s .live) (s .phase .terms) ≡ none → (y : ℕ) → Ready y s → ⊥
+none-is-ready s e y ready =
+    true≢false (sym (not-false (inOdd y (s .phase .terms)) (firstSuch-none (λ u. not (inOdd u (s .phase .terms))) (s .live) e y (ready .0))) ∙ ready .1)
 
 -- a step counts at least one variable
 step-counts : {s t : PathSum} {c d : Counts} → Step s c t d → c .sums + c .turns + 2 * c .joins < d .sums + d .turns + 2 * d .joins
@@ -221,67 +181,85 @@ among-length : {v : ℕ} {us : List ℕ} → Among v us → 0 < length us
 among-length here = omega arith
 among-length (there a) = omega arith
 
--- a run with a step for each live variable, not blocked, ends where none is ready
-run-stops :
-    {n m : ℕ} {s : PathSum} {c : Counts} {e : End}
-    → Good n s
-    → Run m s c e
-    → length (s .live) ≤ m
-    → e .blockedBy ≡ none
-    → NoneReady (e .sum)
-run-stops g spent l b = λ y a. absurd (omega (arith, among-length a))
-run-stops g (idle none-ready) l b = none-ready
-run-stops g (halt {q} h) l b = absurd (Option·some-ne-none q b)
-run-stops {n} {s} {c} g (next {t} {d} step r) l b =
-    let k = step-keeps n s c t d g step in
-    run-stops (k .good) r (omega (arith, step-counts step)) b
+-- where none is live, none is ready
+none-live : (s : PathSum) → length (s .live) ≤ 0 → (y : ℕ) → Ready y s → ⊥
+none-live s l y ready = omega (arith, among-length (ready .0))
 
--- so the reduction, not blocked, leaves none ready: its count does not run out first
+-- the reduction, with a step for each live variable, is document 01's course: its count does not run out first
+pub reduces-from : (n m : ℕ) (s : PathSum) (c : Counts) → Good n s → length (s .live) ≤ m → Reduces n s c (reduceFrom m s c)
+unfolding reduceFrom
+reduces-from n zero s c g l = none-ready (none-live s l)
+reduces-from n (suc m) s c g l = go (reduces-from n m) (firstReady (s .live) (s .phase .terms)) refl
+  where
+    Rest : Type 0
+    Rest = (t : PathSum) (d : Counts) → Good n t → length (t .live) ≤ m → Reduces n t d (reduceFrom m t d)
+
+    taken : Rest → {x : Next} → Outcome n s c x → Reduces n s c (elim x [ goes t d ↦ reduceFrom m t d | stuck q ↦ blocks q s c ])
+    taken later (takes {t} {d} step lowest) =
+        let k = step-keeps n s c t d g step in
+        steps-on step lowest (later t d (k .good) (omega (arith, k .count, step-counts step)))
+    taken later (blocked b lowest empty) = obstructed b lowest empty
+
+    go : Rest → (o : Option ℕ) → firstReady (s .live) (s .phase .terms) ≡ o → Reduces n s c (reduceFrom (suc m) s c)
+    go later none e = rw (e, reduceFrom) (none-ready (none-is-ready s e))
+    go later (some y) e = rw (e, reduceFrom) (taken later (outcome n y s c g (first-is-lowest n y s g e)))
+
+-- a step may come before others
+step-first : {s t u : PathSum} {c d e : Counts} → Step s c t d → Steps t d u e → Steps s c u e
+step-first step Steps.none = more Steps.none step
+step-first step (more before last) = more (step-first step before) last
+
+-- the reduction takes steps to its end
+pub reduce-steps : {n : ℕ} {s : PathSum} {c : Counts} {e : End} → Reduces n s c e → Steps s c (e .sum) (e .counts)
+reduce-steps (none-ready unready) = Steps.none
+reduce-steps (obstructed b lowest empty) = Steps.none
+reduce-steps (steps-on step lowest r) = step-first step (reduce-steps r)
+
+-- where it is blocked, a variable is stuck by the parity that blocks it
+pub reduce-blocks : {n : ℕ} {s : PathSum} {c : Counts} {e : End} {q : Parity} → Reduces n s c e → e .blockedBy ≡ some q → Blocked (e .sum) q
+reduce-blocks {q} (none-ready unready) b = absurd (Option·none-ne-some q b)
+reduce-blocks {q} (obstructed {q = p} h lowest empty) b = rw (Option·some-injective p q b) at h
+reduce-blocks (steps-on step lowest r) b = reduce-blocks r b
+
+-- not blocked, it leaves none ready: each variable left is in a term of odd coefficient
 pub reduce-stops :
-    (n m : ℕ) (s : PathSum) (c : Counts)
-    → Good n s
-    → length (s .live) ≤ m
-    → reduceFrom m s c .blockedBy ≡ none
+    {n : ℕ} {s : PathSum} {c : Counts} {e : End}
+    → Reduces n s c e
+    → e .blockedBy ≡ none
     → (y : ℕ)
-    → Among y (reduceFrom m s c .sum .live)
-    → inOdd y (reduceFrom m s c .sum .phase .terms) ≡ true
-reduce-stops n m s c g l b = run-stops g (run m s c) l b
+    → Among y (e .sum .live)
+    → inOdd y (e .sum .phase .terms) ≡ true
+reduce-stops {s} (none-ready unready) b y a = go (inOdd y (s .phase .terms)) refl
+  where
+    go : (o : Bool) → inOdd y (s .phase .terms) ≡ o → inOdd y (s .phase .terms) ≡ true
+    go true h = h
+    go false h = absurd (unready y (a, h))
+reduce-stops (obstructed {q} h lowest empty) b y a = absurd (Option·some-ne-none q b)
+reduce-stops (steps-on step lowest r) b y a = reduce-stops r b y a
 
 -- where every odd coefficient is on inputs alone, none is left: ready stays ready, so a variable left would be ready and not ready
 pub even-decides :
-    (n m : ℕ) (s : PathSum) (c : Counts)
+    (n : ℕ) (s : PathSum) (c : Counts) (e : End)
     → Good n s
-    → length (s .live) ≤ m
+    → Reduces n s c e
     → OddIn (Inputs n) (s .phase .terms)
-    → reduceFrom m s c .blockedBy ≡ none
-    → reduceFrom m s c .sum .live ≡ []
-even-decides n m s c g l even b = go (end .sum .live) refl
+    → e .blockedBy ≡ none
+    → e .sum .live ≡ []
+even-decides n s c end g r even b = go (end .sum .live) refl
   where
-    end : End
-    end = reduceFrom m s c
-
     kept : Kept n s c (end .sum) (end .counts)
-    kept = steps-keep n s c (end .sum) (end .counts) g (reduce-steps m s c)
+    kept = steps-keep n s c (end .sum) (end .counts) g (reduce-steps r)
 
     go : (ys : List ℕ) → end .sum .live ≡ ys → end .sum .live ≡ []
     go [] e = e
     go (y ∷ ys) e =
         let a : Among y (end .sum .live) = rw e here in
-        absurd
-        (true≢false
-        (sym (reduce-stops n m s c g l b y a) ∙ even-ready n y (end .sum .phase .terms) (kept .even even) (kept .good .above y a)))
+        absurd (true≢false (sym (reduce-stops r b y a) ∙ even-ready n y (end .sum .phase .terms) (kept .even even) (kept .good .above y a)))
 
 -- what is left of a sum without live variables is its phase
 pub live-empty-phase : (s : PathSum) (v : ℕ) → s .live ≡ [] → remaining s v ≡ phasor (s .phase) v
 unfolding remaining sumOver
 live-empty-phase s v e = rw e
-
--- a parity that blocks holds only inputs
-pub stuck-inputs : (n : ℕ) (s : PathSum) (q : Parity) → Good n s → Blocked s q → (v : ℕ) → bit v (q .vars) ≡ true → v < n
-stuck-inputs n s q g h v e =
-    let held : bit v (lOf (h .y) s) ≡ true = rw (h .same) at e in
-    ⊎-elim (λ low. low) (λ a. absurd (true≢false (sym held ∙ h .free v a)))
-    (holds-oddHalves (h .y) g v held)
 
 -- a constraint is not constantly 0: with C = 0 and L empty it would be a sum
 constrained-nonzero : (c l : ℕ) → c < 4 → kindOf c l ≡ constraint → isZero (constrained c l) ≡ false

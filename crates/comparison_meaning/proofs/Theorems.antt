@@ -23,12 +23,14 @@ use Rattle.phase_sum_meaning.proofs.Evenness.{OddIn, Inputs, ready-even, noOdd-
 use Rattle.phase_sum_meaning.proofs.Roominess.{room-build}
 use Rattle.comparison_meaning.specs.Reduction.{End, factor}
 use Rattle.comparison_meaning.specs.Verdict.{equal, different, undecided, Result, blockedInput, endOf, compare, joined, pinnedOf}
-use Rattle.comparison_meaning.specs.Demands.{SomePower, EqualIsRight, DifferentIsRight, UndecidedIsStuck, ReachedBySteps, InputsOnlyIfDifferent, CountsAddUp, FewSteps, Decided, CliffordIsDecided, EvenIsDecided, EveryStep, EndOfSteps, BuiltFits, EveryStepFits, Demands, BlockedAsShown, EverySumIsCanonical}
+use Rattle.comparison_meaning.specs.Demands.{SomePower, EqualIsRight, EqualByConstant, DifferentIsRight, ByTheSteps, ReachedBySteps, InputsOnlyIfDifferent, CountsAddUp, StepsWithinHGates, Decided, CliffordIsDecided, EvenIsDecided, EveryStep, EndOfSteps, BuiltFits, EveryStepFits, Demands, BlockedAsShown, EverySumIsCanonical}
+use Rattle.comparison_meaning.specs.Course.{Continues, further, halted, Stuck, Judged, blocked, unready, unsized, found, same, Shown, shows}
 use Rattle.comparison_meaning.proofs.Weight.{search-some}
 use Rattle.comparison_meaning.proofs.Pinning.{blocked-input, pin-blocked}
 use Rattle.comparison_meaning.proofs.Reducing.{reduce-steps, reduce-blocks, stuck-inputs, stuck-nonzero, stuck-zero}
 use Rattle.comparison_meaning.proofs.Reached.{room-joined, noT-joined, within-joined, pin-end, kept, steps-count, steps-fit, steps-diagonal, fits-sized, same-carries, phases-apart}
-use Rattle.comparison_meaning.proofs.Outcomes.{Reduced, further, halted, reduces, reduced-steps, reduced-through, reduced-stops, reduced-even, Judged, blocked, unready, unsized, found, same, Shown, shows, judges, reason, judged-undecided, judged-decided, judged-inputs, reduced-blocked}
+use Rattle.comparison_meaning.proofs.Course.{course-of, only-course, undecided-if-stuck}
+use Rattle.comparison_meaning.proofs.Outcomes.{continues, reduced-steps, reduced-through, reduced-stops, reduced-even, judges, reason, judged-undecided, judged-decided, judged-inputs, reduced-blocked}
 use Rattle.phase_sum_meaning.proofs.Wellformed.{good-build}
 
 -- no input has a scratch qubit at 1 where there are none
@@ -37,8 +39,8 @@ clear-none v q h = absurd (true≢false (sym h ∙ bit-zero q))
 
 module _ (n : ℕ) (first second : List Gate) (l : AllWithin n first) (r : AllWithin n second) where
   -- how the reduction ends
-  ends : Reduced (pinnedOf 0 n first second) (endOf 0 n first second)
-  ends = reduces (pinnedOf 0 n first second)
+  ends : Continues n (pinnedOf 0 n first second) (endOf 0 n first second)
+  ends = continues n (pinnedOf 0 n first second) (pin-end 0 n first second l r .good)
 
   -- its end is reached by steps, also where pinning is blocked
   pub reached-by-steps : ReachedBySteps n first second
@@ -87,12 +89,12 @@ module _ (n : ℕ) (first second : List Gate) (l : AllWithin n first) (r : AllWi
       add-up (shows j) = steps-count 0 n first second l r _ _ reached-by-steps
 
   -- so there are no more sums, turns and joins than these
-  pub few-steps : FewSteps n first second (compare 0 n first second)
-  few-steps = omega (arith, counts-add-up)
+  pub steps-within-h-gates : StepsWithinHGates n first second (compare 0 n first second)
+  steps-within-h-gates = omega (arith, counts-add-up)
 
   -- equal: the phase is the same at every input, so minus its constant fits every column
-  pub equal-is-right : EqualIsRight n first second (compare 0 n first second)
-  equal-is-right h = carries (rw h at (reason shown))
+  pub equal-by-constant : EqualByConstant n first second (compare 0 n first second)
+  equal-by-constant h = carries (rw h at (reason shown))
     where
       carries :
           {a b : ℕ}
@@ -101,17 +103,20 @@ module _ (n : ℕ) (first second : List Gate) (l : AllWithin n first) (r : AllWi
       carries (same done sized none-found) v b =
           same-carries 0 n first second l r _ _ reached-by-steps (reduced-through ends (done .0)) (done .1) sized none-found v b (clear-none v)
 
+  -- so some power carries the pair
+  pub equal-is-right : EqualIsRight n first second (compare 0 n first second)
+  equal-is-right h = (minus (endOf 0 n first second .sum .phase .constant), omega arith, equal-by-constant h)
+
   -- where the reduction is blocked, the diagonal amplitude is 0 at the input shown
   blocked-zero :
       {e : End} {q : Parity}
-      → Reduced (pinnedOf 0 n first second) e
+      → Continues n (pinnedOf 0 n first second) e
       → e .blockedBy ≡ some q
       → (blockedInput n q < 2 ^ n) × (column (joined first second) (blockedInput n q) (blockedInput n q) ≡ 0ω)
-  blocked-zero {e} {q} (further through) h =
-      let p = pinnedOf 0 n first second in
-      let steps = reduce-steps (length (p .sum .live)) (p .sum) (p .counts) in
+  blocked-zero {e} {q} (further through course) h =
+      let steps = reduce-steps course in
       let good = kept 0 n first second l r (e .sum) (e .counts) steps .good in
-      let stuck = reduce-blocks (length (p .sum .live)) (p .sum) (p .counts) q h in
+      let stuck = reduce-blocks course h in
       let makes = blocked-input n q (stuck-inputs n (e .sum) q good stuck) (stuck-nonzero (e .sum) q stuck) in (
         makes .0,
         every-step through (e .sum) (e .counts) steps (blockedInput n q) (makes .0)
@@ -139,17 +144,15 @@ module _ (n : ℕ) (first second : List Gate) (l : AllWithin n first) (r : AllWi
           let apart = phases-apart 0 n first second l r _ _ reached-by-steps (reduced-through ends (done .0)) (done .1) sized in
           (pow-pos n, witness .0, λ j. apart 0 v j (pow-pos n) (witness .0) (clear-none 0) (witness .1) (witness .2))
 
-  -- undecided: the steps stop, not blocked, with path variables left and none ready
-  pub undecided-is-stuck : UndecidedIsStuck n first second (compare 0 n first second)
-  undecided-is-stuck = (λ h. stops (rw h at (reason shown)), λ h. judged-undecided (reason shown) (h .0) (h .1))
-    where
-      stops :
-          {a b : ℕ}
-          → Judged 0 n (endOf 0 n first second) undecided a b
-          → (endOf 0 n first second .blockedBy ≡ none)
-          × (endOf 0 n first second .sum .live ≡ [] → ⊥)
-          × ((y : ℕ) → Among y (endOf 0 n first second .sum .live) → inOdd y (endOf 0 n first second .sum .phase .terms) ≡ true)
-      stops (unready free some-left) = (free, some-left, reduced-stops n ends (pin-end 0 n first second l r .good) free)
+  -- the result is that of document 01's course, and no other is; undecided: the steps stop, not blocked, with path variables left and none
+  -- ready
+  pub by-the-steps : ByTheSteps n first second (compare 0 n first second)
+  by-the-steps =
+      record {
+        course = course-of 0 n first second l r;
+        only = λ other. only-course 0 n first second other l r;
+        undecided-if-stuck = undecided-if-stuck (course-of 0 n first second l r);
+      }
 
   -- the inputs are 0 and 0 unless different
   pub inputs-only-if-different : InputsOnlyIfDifferent n first second (compare 0 n first second)
@@ -158,13 +161,10 @@ module _ (n : ℕ) (first second : List Gate) (l : AllWithin n first) (r : AllWi
   -- where every odd coefficient of the pinned sum is on inputs alone, the verdict is equal, exactly if one power of ω carries the pair,
   -- or different
   decided : OddIn (Inputs n) (pinnedOf 0 n first second .sum .phase .terms) → Decided n first second (compare 0 n first second)
-  decided even = ((carried, λ power. ⊎-elim (λ h. h) (λ h. absurd (refuted power h)) either), either)
+  decided even = ((equal-is-right, λ power. ⊎-elim (λ h. h) (λ h. absurd (refuted power h)) either), either)
     where
-      carried : compare 0 n first second .verdict ≡ equal → SomePower n first second
-      carried h = (minus (endOf 0 n first second .sum .phase .constant), omega arith, equal-is-right h)
-
       either : (compare 0 n first second .verdict ≡ equal) ⊎ (compare 0 n first second .verdict ≡ different)
-      either = judged-decided (reason shown) (reduced-even n ends (pin-end 0 n first second l r .good) even)
+      either = judged-decided (reason shown) (reduced-even ends (pin-end 0 n first second l r .good) even)
 
       refuted : SomePower n first second → compare 0 n first second .verdict ≡ different → ⊥
       refuted power h = let no = different-is-right h in no .2 (power .0) (power .2 _ (no .0)) (power .2 _ (no .1))
@@ -185,13 +185,14 @@ pub demands : (n : ℕ) (first second : List Gate) → AllWithin n first → All
 demands n first second l r =
     record {
       equal-is-right = equal-is-right n first second l r;
+      equal-by-constant = equal-by-constant n first second l r;
       different-is-right = different-is-right n first second l r;
-      undecided-is-stuck = undecided-is-stuck n first second l r;
+      by-the-steps = by-the-steps n first second l r;
       reached-by-steps = reached-by-steps n first second l r;
       blocked-as-shown = blocked-as-shown n first second l r;
       inputs-only-if-different = inputs-only-if-different n first second l r;
       counts-add-up = counts-add-up n first second l r;
-      few-steps = few-steps n first second l r;
+      steps-within-h-gates = steps-within-h-gates n first second l r;
       clifford-is-decided = clifford-is-decided n first second l r;
       even-is-decided = even-is-decided n first second l r;
       every-step = every-step n first second l r;

@@ -20,6 +20,7 @@ use Rattle.phase_sum_meaning.specs.Meaning.{remaining}
 use Rattle.phase_sum_meaning.specs.Room.{room, mostVariables, places}
 use Rattle.comparison_meaning.specs.Reduction.{Counts, End, factor}
 use Rattle.comparison_meaning.specs.Steps.{Steps, Blocked}
+use Rattle.comparison_meaning.specs.Course.{Course, Stuck}
 use Rattle.comparison_meaning.specs.Verdict.{Result, equal, different, undecided, joined, pinnedOf, endOf, compare}
 
 -- the sum t with the counts d is reached by document 01's steps from the pinned sum of a pair
@@ -39,9 +40,13 @@ module _ (n : ℕ) (first second : List Gate) where
   abbrev pub SomePower : Type 0
   SomePower = (j : ℕ) × (j < 8) × Carries n j first second
 
-  -- demand 2: equal is said only where one power of ω carries the pair; it is minus the constant of the phase that is left
+  -- demand 2: equal is said only where one power of ω carries the pair
   abbrev pub EqualIsRight : Result → Type 0
-  EqualIsRight answer = answer .verdict ≡ equal → Carries n (minus (end .sum .phase .constant)) first second
+  EqualIsRight answer = answer .verdict ≡ equal → SomePower
+
+  -- and that power is minus the constant of the phase that is left
+  abbrev pub EqualByConstant : Result → Type 0
+  EqualByConstant answer = answer .verdict ≡ equal → Carries n (minus (end .sum .phase .constant)) first second
 
   -- demand 2: different is said only with two inputs shown whose columns no single power of ω fits
   abbrev pub DifferentIsRight : Result → Type 0
@@ -51,15 +56,14 @@ module _ (n : ℕ) (first second : List Gate) where
       × (answer .second < 2 ^ n)
       × ((j : ℕ) → Fits n j first second (answer .first) → Fits n j first second (answer .second) → ⊥)
 
-  -- demand 2: undecided is said exactly where the steps stop, not blocked, with path variables left and none of them ready
-  abbrev pub UndecidedIsStuck : Result → Type 0
-  UndecidedIsStuck answer =
-      (answer .verdict ≡ undecided)
-      ↔ ((end .blockedBy ≡ none)
-      × (end .sum .live ≡ [] → ⊥)
-      × ((y : ℕ) → Among y (end .sum .live) → inOdd y (end .sum .phase .terms) ≡ true))
+  -- demand 2: verdict, inputs and counts are those of document 01's steps, which give no other result; and undecided is said exactly where
+  -- they stop, not blocked, with path variables left and none of them ready
+  pub record ByTheSteps (answer : Result) : Type 0 where
+    pub course : Course 0 n first second answer
+    pub only : (r : Result) → Course 0 n first second r → r ≡ answer
+    pub undecided-if-stuck : (answer .verdict ≡ undecided) ↔ Stuck (course .end)
 
-  -- demand 2: the sum and the counts where the reduction ends are reached by the steps
+  -- the sum and the counts where the reduction ends are reached by steps in any order of the variables
   abbrev pub ReachedBySteps : Type 0
   ReachedBySteps = Reached 0 n first second (end .sum) (end .counts)
 
@@ -77,8 +81,8 @@ module _ (n : ℕ) (first second : List Gate) where
       answer .pins + answer .sums + answer .turns + 2 * answer .joins + answer .left ≡ hGates first + hGates second
 
   -- demand 3: so sums + turns + joins never exceeds them
-  abbrev pub FewSteps : Result → Type 0
-  FewSteps answer = answer .sums + answer .turns + answer .joins ≤ hGates first + hGates second
+  abbrev pub StepsWithinHGates : Result → Type 0
+  StepsWithinHGates answer = answer .sums + answer .turns + answer .joins ≤ hGates first + hGates second
 
   -- equal exactly when one power of ω carries the pair, otherwise different, never undecided
   abbrev pub Decided : Result → Type 0
@@ -140,13 +144,14 @@ PairFits n first second = n + (hGates first + hGates second) ≤ mostVariables �
 -- all of it, for a pair
 pub record Demands (n : ℕ) (first second : List Gate) : Type 0 where
   pub equal-is-right : EqualIsRight n first second (compare 0 n first second)
+  pub equal-by-constant : EqualByConstant n first second (compare 0 n first second)
   pub different-is-right : DifferentIsRight n first second (compare 0 n first second)
-  pub undecided-is-stuck : UndecidedIsStuck n first second (compare 0 n first second)
+  pub by-the-steps : ByTheSteps n first second (compare 0 n first second)
   pub reached-by-steps : ReachedBySteps n first second
   pub blocked-as-shown : BlockedAsShown n first second
   pub inputs-only-if-different : InputsOnlyIfDifferent n first second (compare 0 n first second)
   pub counts-add-up : CountsAddUp n first second (compare 0 n first second)
-  pub few-steps : FewSteps n first second (compare 0 n first second)
+  pub steps-within-h-gates : StepsWithinHGates n first second (compare 0 n first second)
   pub clifford-is-decided : CliffordIsDecided n first second (compare 0 n first second)
   pub even-is-decided : EvenIsDecided n first second (compare 0 n first second)
   pub every-step : EveryStep n first second

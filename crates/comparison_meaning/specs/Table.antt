@@ -70,6 +70,11 @@ doublyControlledZ =
     ∷ two CX 0 2
     ∷ []
 
+-- a list on two qubits whose comparison with itself is undecided
+abbrev pub undecidedWithItself : List Gate
+undecidedWithItself =
+    one H 0 ∷ one H 1 ∷ one T 0 ∷ two CX 1 0 ∷ one H 1 ∷ two CX 1 0 ∷ one H 0 ∷ []
+
 -- rows that show which of several comes first, what is done before what, and what a quick hand would miss
 abbrev pub choices : List Row
 choices =
@@ -95,4 +100,6 @@ choices =
     ∷ row 3 doublyControlledZ [] (says different 0 7 0 0 0 0 0)
     -- S in the second list is undone by its inverse
     ∷ row 1 (one S 0 ∷ []) (one S 0 ∷ []) (says equal 0 0 0 0 0 0 0)
+    -- a list may be undecided against itself: the steps go by the sum, and do not see that the lists are the same
+    ∷ row 2 undecidedWithItself undecidedWithItself (says undecided 0 0 2 0 0 1 4)
     ∷ []

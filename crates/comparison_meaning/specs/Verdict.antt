@@ -33,6 +33,18 @@ firstDiffering φ vs = firstSuch (λ v. not (eqb (phaseAt φ v % 8) (phaseAt φ 
 pub data Verdict : Type 0 where
   equal different undecided : Verdict
 
+-- document 01's number of a verdict
+abbrev pub number : Verdict → ℕ
+number equal = 0
+number different = 1
+number undecided = 2
+
+-- the verdict of a number. (No verdict has a number above 2.)
+abbrev pub numbered : ℕ → Verdict
+numbered zero = equal
+numbered (suc zero) = different
+numbered (suc (suc k)) = undecided
+
 -- what the comparison returns: the verdict, its two inputs and the five counts
 pub record Result : Type 0 where
   pub verdict : Verdict
@@ -43,6 +55,11 @@ pub record Result : Type 0 where
   pub turns : ℕ
   pub joins : ℕ
   pub left : ℕ
+
+-- a result's eight numbers, in the order in which document 01 prints them and the report record has them
+abbrev pub numbers : Result → List ℕ
+numbers r =
+    number (r .verdict) ∷ r .first ∷ r .second ∷ r .pins ∷ r .sums ∷ r .turns ∷ r .joins ∷ r .left ∷ []
 
 -- document 01's left: the path variables that no pin or join has replaced and no sum, turn or join has taken out
 abbrev pub left : End → ℕ

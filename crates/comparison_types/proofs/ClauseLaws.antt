@@ -33,10 +33,10 @@ use Rattle.comparison_meaning.specs.Reduction as reduction
 use Rattle.comparison_meaning.specs.Reduction.{pinned, reduceEnd}
 use Rattle.comparison_meaning.specs.Verdict as verdict
 use Rattle.comparison_meaning.specs.Verdict.{Result, equal, different, undecided, joined, judge, compare}
-use Rattle.comparison_meaning.specs.Demands.{Accepted, Demands, SomePower, ReachedBySteps, DifferentIsRight, UndecidedIsStuck, CliffordIsDecided, CountsAddUp, end}
+use Rattle.comparison_meaning.specs.Demands.{Accepted, Demands, EqualIsRight, DifferentIsRight, ByTheSteps, InputsOnlyIfDifferent, CliffordIsDecided, CountsAddUp, StepsWithinHGates}
 use Rattle.comparison_meaning.proofs.Bytes.{demands-pair, room-fits-pair}
 use Rattle.comparison_types.specs.Call.{Said, says, refuses, numberOf, verdictOf, resultOf, saidOf, pairRows, pairFault, compareRead, unlessFault, comparison, leftBy}
-use Rattle.comparison_types.specs.Clauses.{ForResult, Sound, Stops, Clifford, CountsUp}
+use Rattle.comparison_types.specs.Clauses.{ForResult, Sound, Stops, Inputs, Clifford, CountsUp}
 use Rattle.comparison_types.specs.Inner.{members, sumOf, sumBuilt, Sized, Kept, AcceptedOn, numberIn, pairNumber}
 use Rattle.comparison_types.specs.declared.Verdict.{Verdict}
 use Rattle.comparison_types.specs.declared.Verdict.the-variants.{Equal, Different, Undecided}
@@ -229,29 +229,23 @@ module _ (s t : List ℕ) (w c : ℕ) (a : Answer) (said : saidOf a ≡ comparis
   holds P proof n first second o pair is =
       rw (outcome-is n first second o pair is) (proof n first second (demands-pair s t n first second pair))
 
-  -- equal and different are said only where that is right
-  sound-said : Sound s t a
-  sound-said =
-      holds (λ n first second r. (r .verdict ≡ equal → SomePower n first second) × DifferentIsRight n first second r)
-      (λ n first second d. (λ h. (minus (end n first second .sum .phase .constant), omega arith, d .equal-is-right h), d .different-is-right))
-
-  -- undecided is said exactly where the steps stop
-  stops-said : Stops s t a
-  stops-said =
-      holds (λ n first second r. ReachedBySteps n first second × UndecidedIsStuck n first second r)
-      (λ n first second d. (d .reached-by-steps, d .undecided-is-stuck))
-
-  -- lists without T are decided
-  clifford-said : Clifford s t a
-  clifford-said = holds (λ n first second r. CliffordIsDecided n first second r) (λ n first second d. d .clifford-is-decided)
-
-  -- the counts add up
-  counts-said : CountsUp s t a
-  counts-said = holds (λ n first second r. CountsAddUp n first second r) (λ n first second d. d .counts-add-up)
-
-  -- all four clauses
-  pub clauses-said : Sound s t a × (Stops s t a × (Clifford s t a × CountsUp s t a))
-  clauses-said = (sound-said, (stops-said, (clifford-said, counts-said)))
+  -- all the clauses
+  pub clauses-said : Sound s t a × (Stops s t a × (Inputs s t a × (Clifford s t a × CountsUp s t a)))
+  clauses-said = (
+    holds (λ n first second r. EqualIsRight n first second r × DifferentIsRight n first second r)
+        (λ n first second d. (d .equal-is-right, d .different-is-right)),
+    (
+      holds (λ n first second r. ByTheSteps n first second r) (λ n first second d. d .by-the-steps),
+      (
+        holds (λ n first second r. InputsOnlyIfDifferent n first second r) (λ n first second d. d .inputs-only-if-different),
+        (
+          holds (λ n first second r. CliffordIsDecided n first second r) (λ n first second d. d .clifford-is-decided),
+          holds (λ n first second r. CountsAddUp n first second r × StepsWithinHGates n first second r)
+              (λ n first second d. (d .counts-add-up, d .steps-within-h-gates)),
+        ),
+      ),
+    ),
+  )
 
 -- zeros over the first m places of a list that is another behind them
 zeros-over : (m : ℕ) (old new : List ℕ) → drop m new ≡ drop m old → over m [] new ≡ replicate m 0 ++ drop m old

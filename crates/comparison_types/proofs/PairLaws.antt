@@ -10,7 +10,7 @@ use mathlib.Core.List.{List, [], _∷_}
 use lib.ListN.{length}
 use lib.Dec.{ltb, eqb}
 use borrow.Author.Tests.{lt-ltb, le-ltb, eq-eqb, ne-eqb}
-use Rattle.record_format.specs.Gate.{Gate, one, two, oneQubitKind}
+use Rattle.record_format.specs.Gate.{Gate}
 use Rattle.record_format.specs.Row.{Fault, first}
 use Rattle.record_format.specs.Reading.{Reading, accepted, refused, read}
 use Rattle.record_format.specs.Answer.{refuses, numberOf, checkedAnswer}
@@ -19,11 +19,12 @@ use Rattle.record_format.specs.declared.Refusal as list
 use Rattle.record_format.specs.declared.Checked.{Checked}
 use Rattle.record_format.specs.declared.Checked.the-variants.{Accepted}
 use Rattle.record_format.proofs.Theorems.{accepted-is-sound}
-use Rattle.amplitude.specs.Circuit.{tally, isH, hGates}
-use Rattle.amplitude.proofs.BitLaws.{digit-below}
+use Rattle.amplitude.specs.Circuit.{tally, hGates}
 use Rattle.phase_sum_meaning.specs.Room.{mostVariables, places}
 use Rattle.phase_sum_terms.specs.Unmerged.{gatesIn}
+use Rattle.phase_sum_terms.specs.declared.counting.Weight.the-variants as weight
 use Rattle.phase_sum_terms.proofs.Acceptance.{gates-of-part, accepted-by-check}
+use Rattle.phase_sum_terms.proofs.Tallying.{light}
 use Rattle.comparison_types.specs.Call.{pairFault}
 use Rattle.comparison_types.specs.Inner.{AcceptedOn, numberIn}
 use Rattle.comparison_types.specs.declared.Refusal.{Refusal}
@@ -66,16 +67,11 @@ second-refused s t w c n k f (gs, e) d same = rw (e, d, same)
 pub part-is : (s part : List ℕ) (n : ℕ) (gs : List Gate) → read s ≡ accepted n gs → part ≡ gatePart s (read s) → gatesIn part ≡ gs
 part-is s part n gs e same = rw same (gates-of-part s n gs e)
 
--- a gate is at most one H gate
-one-h : (g : Gate) → isH g ≤ 1
-one-h (one u q) = omega (arith, digit-below (eqb (oneQubitKind u) 7))
-one-h (two v a b) = omega arith
-
 -- a list has at most as many H gates as gates
 h-gates-few : (gs : List Gate) → hGates gs ≤ length gs
 unfolding tally
 h-gates-few [] = omega arith
-h-gates-few (g ∷ gs) = omega (arith, one-h g, h-gates-few gs)
+h-gates-few (g ∷ gs) = omega (arith, light weight.H g, h-gates-few gs)
 
 -- an accepted record has at most 16 qubits and 512 H gates
 pub small : (s : List ℕ) (n : ℕ) (gs : List Gate) → read s ≡ accepted n gs → (n ≤ 16) × (hGates gs ≤ 512)

@@ -14,7 +14,7 @@ use Rattle.record_format.specs.Answer as list
 use Rattle.amplitude.specs.Circuit.{hGates, tGates}
 use Rattle.phase_sum_meaning.specs.Room.{mostVariables, places}
 use Rattle.comparison_meaning.specs.Verdict as verdict
-use Rattle.comparison_meaning.specs.Verdict.{Result, compare}
+use Rattle.comparison_meaning.specs.Verdict.{Result, numbered, compare}
 use Rattle.comparison_types.specs.declared.Verdict.{Verdict}
 use Rattle.comparison_types.specs.declared.Verdict.the-variants.{Equal, Different, Undecided}
 use Rattle.comparison_types.specs.declared.Outcome.{Outcome}
@@ -35,11 +35,15 @@ pub data Said : Type 0 where
   says : Result → Said
   refuses : ℕ → Said
 
+-- document 01's number of a verdict
+abbrev pub verdictNumber : Verdict → ℕ
+verdictNumber Equal = 0
+verdictNumber Different = 1
+verdictNumber Undecided = 2
+
 -- the verdict that an enum's case stands for
 abbrev pub verdictOf : Verdict → verdict.Verdict
-verdictOf Equal = verdict.equal
-verdictOf Different = verdict.different
-verdictOf Undecided = verdict.undecided
+verdictOf v = numbered (verdictNumber v)
 
 -- the result that an outcome stands for
 abbrev pub resultOf : Outcome → Result

@@ -1,10 +1,15 @@
 // The comparison layer, its base: answers and numbers, the state of a reduction, and what the contracts of the layer say (specs/). Document
 // 01, "Reducing it", "Report, pick, builder" and "Where a call is turned down". Licensees use `comparison`.
 ghost use mathlib.Core.Path.{_≡_};
-ghost use Rattle.comparison_types.specs.Call.{numberOf};
+ghost use Prim.Native.Nat.{_≤_};
+ghost use Rattle.record_format.specs.Format.{lastVerdict};
+ghost use Rattle.record_format.specs.Answer.{fields};
+ghost use Rattle.comparison_meaning.specs.Verdict.{numbers};
+ghost use Rattle.comparison_types.specs.Call.{numberOf, verdictNumber, resultOf};
 use phase_sum_terms::Phase;
 use phase_sum_terms::Wire;
 use phase_sum_terms::Wires;
+use record_format::Report;
 
 // The three verdicts.
 pub enum Verdict {
@@ -52,6 +57,35 @@ pub fn number(r: Refusal) -> u8
         Refusal::QubitsDiffer => 8,
         Refusal::TooManyVariables => 9,
         Refusal::WorkspaceShort => 10,
+    }
+}
+
+// The number of a verdict.
+pub fn verdict_number(v: Verdict) -> u8
+    ensures { λ k. ⌜ k ≡ verdictNumber v ⌝ }
+{
+    match v {
+        Verdict::Equal => 0,
+        Verdict::Different => 1,
+        Verdict::Undecided => 2,
+    }
+}
+
+// An outcome as the eight fields of the report record. Its verdict is one that the report's writer takes.
+pub fn report_of(o: Outcome) -> Report
+    ensures fields { λ r. ⌜ fields r ≡ numbers (resultOf o) ⌝ }
+    ensures known { λ r. ⌜ r .verdict ≤ lastVerdict ⌝ }
+{
+    let verdict = o.verdict;
+    Report {
+        verdict: verdict_number(verdict),
+        first: o.first,
+        second: o.second,
+        pins: o.pins,
+        sums: o.sums,
+        turns: o.turns,
+        joins: o.joins,
+        left: o.left,
     }
 }
 

@@ -3,14 +3,26 @@
 use mathlib.Core.Path.{_≡_, refl}
 use Prim.Native.Nat.{ℕ}
 use mathlib.Core.Bool.{true, xor}
-use mathlib.Core.List.{List, [], _∷_}
-use Rattle.record_format.specs.Gate.{one, two, Y, T†, H, CX}
+use mathlib.Core.List.{List, [], _∷_, map}
+use Rattle.record_format.specs.Gate.{everyKind, one, two, Y, T†, H, CX}
 use Rattle.amplitude.specs.Bits.{bit}
+use Rattle.amplitude.specs.Circuit.{tally}
 use Rattle.phase_sum_meaning.specs.Sets.{_△_, xorUpTo, without, from}
 use Rattle.phase_sum_meaning.specs.Parity.{Parity, of, _⊕_, complement, replaceIn}
 use Rattle.phase_sum_meaning.specs.Phase.{Phase, Term, term, keep, merge, addTerm, addConstant, addPhase, rebuild, inOdd}
 use Rattle.phase_sum_meaning.specs.Building.{PathSum, input, initial, setWire, withPhase, hadamard, gate, gatesFrom, build}
+use Rattle.phase_sum_meaning.specs.Room.{roomFor, room}
 use Rattle.phase_sum_meaning.specs.Stepping.{replace, outOf, oddHalves, takeOut, turned, constrained}
+
+-- the room of one gate of each kind, from 0 to 10: 1 for each Y, Z, S, T and inverse of S or T, 3 for a CZ, 4 for an H
+pub room-kinds : map roomFor everyKind ≡ 0 ∷ 1 ∷ 1 ∷ 1 ∷ 1 ∷ 1 ∷ 1 ∷ 4 ∷ 0 ∷ 3 ∷ 0 ∷ []
+unfolding roomFor
+room-kinds = refl
+
+-- over both lists
+pub room-of-both : room everyKind (one H 0 ∷ []) ≡ 17
+unfolding roomFor tally
+room-of-both = refl
 
 -- the parity of a set and its complement
 abbrev pub not-of : ℕ → Parity

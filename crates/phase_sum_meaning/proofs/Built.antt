@@ -672,12 +672,6 @@ gates-step n v (g ∷ gs) ψ s within fresh same =
     gates-step n v gs (apply g ψ) (gate 2 n g s) (within .1) (fresh-gate n g s (within .0) fresh)
     (gate-step n v g ψ s (within .0) fresh same)
 
--- and they leave the sum fresh
-pub fresh-gates : (n : ℕ) (gs : List Gate) (s : PathSum) → AllWithin n gs → Fresh n s → Fresh n (gatesFrom 2 n gs s)
-unfolding gatesFrom
-fresh-gates n [] s within fresh = fresh
-fresh-gates n (g ∷ gs) s within fresh = fresh-gates n gs (gate 2 n g s) (within .1) (fresh-gate n g s (within .0) fresh)
-
 -- the built sum is the amplitude, exactly, from every input that is clear of the scratch qubits
 pub built : (scratch n : ℕ) (gs : List Gate) → AllWithin n gs → (v w : ℕ) → v < 2 ^ n → w < 2 ^ n → Clear scratch v →
     column gs v w ≡ meaning n (build scratch n gs) v w

@@ -50,12 +50,6 @@ pub both-both : (y z : ℕ) (F : ℕ → Zω) → both y (both z F) ≡ both z (
 unfolding both
 both-both y z F = fun-ext (λ x. rw (flip-comm z y x) (+ω-swap (F x) (F (flip z x)) (F (flip y x)) (F (flip y (flip z x)))))
 
--- one more variable may be added over before or after the others
-pub sumOver-both : (z : ℕ) (zs : List ℕ) (F : ℕ → Zω) → sumOver zs (both z F) ≡ both z (sumOver zs F)
-unfolding sumOver
-sumOver-both z [] F = refl
-sumOver-both z (y ∷ zs) F = ap (sumOver zs) (both-both y z F) ∙ sumOver-both z zs (both y F)
-
 -- a variable at the end of the list
 pub sumOver-snoc : (zs : List ℕ) (z : ℕ) (F : ℕ → Zω) → sumOver (zs ++ z ∷ []) F ≡ sumOver zs (both z F)
 unfolding sumOver

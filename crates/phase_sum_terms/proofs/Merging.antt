@@ -64,26 +64,6 @@ pub merged-same :
     merged ts ≡ merged us
 merged-same ts us h = merged-unique ts (merged us) (canonical-merged us) (λ u ne. coeffOf-merged u us ne ∙ sym (h u ne))
 
--- the coefficients of terms in canonical form are below 8, and each is all that there is at its set
-coeffOf-total : (u b : ℕ) (ts : List Term) → CanonicalAbove b ts → coeffOf u ts ≡ total u (setsOf ts) (coeffsOf ts) % 8
-unfolding coeffOf total
-coeffOf-total u b [] e = refl
-coeffOf-total u b (t ∷ ts) e = go (eqb u (t .set)) refl (coeffOf-total u (t .set) ts (e .3))
-  where
-    go :
-        (a : Bool) →
-        eqb u (t .set) ≡ a →
-        coeffOf u ts ≡ total u (setsOf ts) (coeffsOf ts) % 8 →
-        coeffOf u (t ∷ ts) ≡ total u (setsOf (t ∷ ts)) (coeffsOf (t ∷ ts)) % 8
-    go true q h =
-        let l : u ≤ t .set = omega (arith, eqb-true u (t .set) q) in
-        rw q (omega (arith, coeffOf-above u (t .set) ts l (e .3), e .2))
-    go false q h = rw (q, zero-add) h
-
--- terms in canonical form stay as they are
-pub merged-canonical : (ts : List Term) → Canonical ts → merged ts ≡ ts
-merged-canonical ts e = merged-unique ts ts e (λ u ne. coeffOf-total u 0 ts e)
-
 -- the terms with one more merged in, the empty set dropped
 unfoldable pub added : Term → List Term → List Term
 added t ts = cond (eqb (t .set) 0) ts (merge (t .set) (t .coeff) ts)

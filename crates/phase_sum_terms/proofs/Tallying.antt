@@ -1,4 +1,4 @@
--- Counting the gates of a list by its bytes: what a gate weighs by its kind, and what a loop that adds up a weight of at most 1 a
+-- Counting the gates of a list by its bytes: what a gate weighs by its kind, and what a loop that adds up a weight of at most 3 a
 -- gate has counted when it stands at a byte.
 -- Assumes nothing.
 use mathlib.Core.Path.{_≡_, refl}
@@ -10,13 +10,16 @@ use lib.ListN.{length, getD, drop, length-drop}
 use lib.Dec.{eqb}
 use borrow.Author.Tests.{lt-leb, ne-eqb}
 use Rattle.record_format.specs.Format.{lastOneQubit}
-use Rattle.record_format.specs.Gate.{Gate, OneQubit, TwoQubit, X, Y, Z, S, S†, T, T†, H, one, two, raw, gateOf, oneQubitKind}
+use Rattle.record_format.specs.Gate.{Gate, OneQubit, TwoQubit, one, two, X, Y, Z, S, S†, T, T†, H, CX, CZ, SWAP, gateOf, raw, oneQubitKind, oneQubitKinds, twoQubitKinds}
 use Rattle.record_format.specs.Reading.{raws}
 use Rattle.record_format.proofs.Storing.{three-at}
 use Rattle.amplitude.specs.Bits.{digit}
 use Rattle.amplitude.specs.Circuit.{tally, isH, isT}
 use Rattle.amplitude.proofs.BitLaws.{digit-below}
 use Rattle.phase_sum_terms.specs.Unmerged.{gatesIn}
+use Rattle.phase_sum_terms.specs.Inner.{weightOf}
+use Rattle.phase_sum_terms.specs.declared.counting.Weight.{Weight}
+use Rattle.phase_sum_terms.specs.declared.counting.Weight.the-variants as weight
 
 -- a weight that the gates on one qubit have by their kinds' numbers, and those on two qubits by any number above 7
 module _
@@ -45,22 +48,47 @@ module _
         above (suc (suc (suc (suc (suc (suc (suc (suc k)))))))) a b (omega arith)
 
 -- the kind byte of H
-abbrev pub hKind : ℕ → Bool
+abbrev hKind : ℕ → Bool
 hKind k = eqb k 7
 
 -- the kind bytes of T and its inverse
-abbrev pub tKind : ℕ → Bool
+abbrev tKind : ℕ → Bool
 tKind k = eqb k 5 || eqb k 6
+
+-- a gate on one qubit is an H, or a T or its inverse, by its kind's number
+kind-counts : (u : OneQubit) (q : ℕ) → (isH (one u q) ≡ digit (hKind (oneQubitKind u))) × (isT (one u q) ≡ digit (tKind (oneQubitKind u)))
+unfolding oneQubitKind
+kind-counts X q = (refl, refl)
+kind-counts Y q = (refl, refl)
+kind-counts Z q = (refl, refl)
+kind-counts S q = (refl, refl)
+kind-counts S† q = (refl, refl)
+kind-counts T q = (refl, refl)
+kind-counts T† q = (refl, refl)
+kind-counts H q = (refl, refl)
+
+-- a gate on two qubits is neither
+two-count : (v : TwoQubit) (a b : ℕ) → (isH (two v a b) ≡ 0) × (isT (two v a b) ≡ 0)
+two-count CX a b = (refl, refl)
+two-count CZ a b = (refl, refl)
+two-count SWAP a b = (refl, refl)
 
 -- a gate is an H by its kind byte
 pub h-by-kind : (k a b : ℕ) → isH (gateOf (raw k a b)) ≡ digit (hKind k)
-h-by-kind = by-kind isH hKind (λ u a. refl) (λ v a b k l. rw (ne-eqb k 7 (omega arith)))
+h-by-kind = by-kind isH hKind (λ u a. kind-counts u a .0) (λ v a b k l. rw (two-count v a b .0, ne-eqb k 7 (omega arith)))
 
 -- and a T or its inverse
 pub t-by-kind : (k a b : ℕ) → isT (gateOf (raw k a b)) ≡ digit (tKind k)
-t-by-kind = by-kind isT tKind (λ u a. refl) (λ v a b k l. rw (ne-eqb k 5 (omega arith), ne-eqb k 6 (omega arith)))
+t-by-kind = by-kind isT tKind (λ u a. kind-counts u a .1) (λ v a b k l. rw (two-count v a b .1, ne-eqb k 5 (omega arith), ne-eqb k 6 (omega arith)))
 
--- the gates in front of byte i are counted, and sum is their weight
+-- no gate weighs more than 1
+pub light : (w : Weight) (g : Gate) → weightOf w g ≤ 1
+light weight.H (one u q) = omega (arith, kind-counts u q .0, digit-below (hKind (oneQubitKind u)))
+light weight.H (two v a b) = omega (arith, two-count v a b .0)
+light weight.T (one u q) = omega (arith, kind-counts u q .1, digit-below (tKind (oneQubitKind u)))
+light weight.T (two v a b) = omega (arith, two-count v a b .1)
+
+-- the gates in front of byte i are counted, and sum is their weight; as no gate weighs more than its three bytes, it is at most i
 pub record Counted (weight : Gate → ℕ) (gates : List ℕ) (sum i : ℕ) : Type 0 where
   pub inside : i ≤ length gates
   pub small : sum ≤ i
@@ -72,20 +100,19 @@ counted-none = record { inside = omega arith; small = omega arith; rest = omega 
 
 -- a turn counts the gate whose three bytes come next
 pub counted-more :
-    {weight : Gate → ℕ} {gates : List ℕ} {sum i r : ℕ} (f : ℕ → Bool) →
-    ((k a b : ℕ) → weight (gateOf (raw k a b)) ≡ digit (f k)) →
+    {weight : Gate → ℕ} {gates : List ℕ} {sum i r : ℕ} →
+    ((g : Gate) → weight g ≤ 3) →
     Counted weight gates sum i →
     3 ≤ length gates - i →
     ((a b : ℕ) → r ≡ weight (gateOf (raw (getD gates i 0) a b))) →
     Counted weight gates (sum + r) (i + 3)
 unfolding raws tally
-counted-more {weight} {gates} {sum} {i} {r} f is before left next =
-    let k = getD gates i 0 in
+counted-more {weight} {gates} {sum} {i} {r} most before left next =
     let a = getD gates (i + 1) 0 in
     let b = getD gates (i + 2) 0 in
     let weighs = next a b in
     let rest = rw (three-at gates i (omega arith)) at (before .rest) in
-    record { inside = omega arith; small = omega (arith, is k a b, digit-below (f k)); rest = omega arith }
+    record { inside = omega arith; small = omega (arith, most (gateOf (raw (getD gates i 0) a b))); rest = omega arith }
 
 -- fewer than three bytes are no gate
 no-gate : (bytes : List ℕ) → length bytes < 3 → gatesIn bytes ≡ []

@@ -6,7 +6,7 @@ use Prim.Native.Nat.{ℕ}
 use mathlib.Core.Option.{none, some}
 use mathlib.Core.List.{[], _∷_, _++_}
 use Rattle.record_format.specs.Format.{listMark}
-use Rattle.record_format.specs.Gate.{one, two, S, S†, T†, T, H, CX, gateOf, inverseKind, inverseGate, inverseList, X, Y, Z, CZ, SWAP}
+use Rattle.record_format.specs.Gate.{everyKind, one, two, S, S†, T†, T, H, CX, gateOf, inverseKind, inverseGate, inverseList, X, Y, Z, CZ, SWAP}
 use Rattle.record_format.specs.Row.{Fault, first}
 use Rattle.record_format.specs.Reading.{raws, allGateRows, recordRows, accepted, refused, read}
 use Rattle.record_format.specs.Writing.{gatePart, gatesAt}
@@ -70,8 +70,7 @@ pub every-kind :
     (listMark
     ++ 2 ∷ 11 ∷ 0 ∷ 0 ∷ 0 ∷ 255 ∷ 1 ∷ 0 ∷ 255 ∷ 2 ∷ 0 ∷ 255 ∷ 3 ∷ 0 ∷ 255 ∷ 4 ∷ 0 ∷ 255 ∷ 5 ∷ 0 ∷ 255 ∷ 6 ∷ 0 ∷ 255 ∷ 7 ∷ 0 ∷ 255
     ∷ 8 ∷ 0 ∷ 1 ∷ 9 ∷ 0 ∷ 1 ∷ 10 ∷ 0 ∷ 1 ∷ [])
-    ≡ accepted 2
-    (one X 0 ∷ one Y 0 ∷ one Z 0 ∷ one S 0 ∷ one S† 0 ∷ one T 0 ∷ one T† 0 ∷ one H 0 ∷ two CX 0 1 ∷ two CZ 0 1 ∷ two SWAP 0 1 ∷ [])
+    ≡ accepted 2 everyKind
 unfolding read recordRows first allGateRows raws gateOf
 every-kind = refl
 

@@ -21,6 +21,11 @@ pub data Gate : Type 0 where
   one : OneQubit → ℕ → Gate
   two : TwoQubit → ℕ → ℕ → Gate
 
+-- one gate of each kind, in the order of their numbers, for worked cases
+abbrev pub everyKind : List Gate
+everyKind =
+    one X 0 ∷ one Y 0 ∷ one Z 0 ∷ one S 0 ∷ one S† 0 ∷ one T 0 ∷ one T† 0 ∷ one H 0 ∷ two CX 0 1 ∷ two CZ 0 1 ∷ two SWAP 0 1 ∷ []
+
 -- the gate's qubits are below n, and two qubits differ
 abbrev pub Within : ℕ → Gate → Type 0
 Within n (one u a) = a < n
