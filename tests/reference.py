@@ -1,12 +1,15 @@
-"""An independent implementation of document 01, for tests alone: reading, the steps, and exact dense columns.
+"""An independent implementation of document 01, for tests alone: records and reports, the steps, the pick, and exact dense columns.
 
 It shares no code with the engine and is written for plainness: terms are a dictionary from set to coefficient, and columns are
 dictionaries from output to four whole numbers.
 """
 
+from itertools import combinations
+
 X, Y, Z, S, SI, T, TI, H, CX, CZ, SWAP = range(11)
 INVERSE = {S: SI, SI: S, T: TI, TI: T}
 VERDICTS = ("equal", "different", "undecided")
+PLACES = 3136
 
 
 class Refused(Exception):
@@ -33,15 +36,20 @@ def read_record(data):
         raise Refused(1)
     gates = []
     for i in range(g):
-        kind, a, b = data[5 + 3 * i : 8 + 3 * i]
-        if kind > SWAP:
-            raise Refused(5)
-        if kind <= H and b != 255:
-            raise Refused(7)
-        if a >= n or (kind > H and (b >= n or a == b)):
-            raise Refused(6)
-        gates.append((kind, a, b))
+        gate = tuple(data[5 + 3 * i : 8 + 3 * i])
+        check_gate(n, *gate)
+        gates.append(gate)
     return n, gates, 5 + 3 * g
+
+
+def check_gate(n, kind, a, b):
+    """Raises Refused where the gate is none on n qubits."""
+    if kind > SWAP:
+        raise Refused(5)
+    if kind <= H and b != 255:
+        raise Refused(7)
+    if a >= n or (kind > H and (b >= n or a == b)):
+        raise Refused(6)
 
 
 def record(n, gates):
@@ -53,6 +61,52 @@ def record(n, gates):
 def inverted(gates):
     """The gates backwards, S and T exchanged for their inverses."""
     return [(INVERSE.get(k, k), a, b) for k, a, b in reversed(gates)]
+
+
+# Writers: each takes the lent buffer and gives the record's length and the buffer afterwards, or raises Refused.
+
+
+def written(buffer, data):
+    if len(buffer) < len(data):
+        raise Refused(11)
+    return len(data), data + buffer[len(data) :]
+
+
+def start(buffer, n):
+    if not 1 <= n <= 16:
+        raise Refused(3)
+    return written(buffer, record(n, []))
+
+
+def add(buffer, kind, a, b):
+    n, gates, _ = read_record(buffer)
+    if len(gates) == 512:
+        raise Refused(4)
+    check_gate(n, kind, a, b)
+    return written(buffer, record(n, gates + [(kind, a, b)]))
+
+
+def inverse(data, buffer):
+    n, gates, _ = read_record(data)
+    return written(buffer, record(n, inverted(gates)))
+
+
+def write_report(buffer, verdict, first, second, pins, sums, turns, joins, left):
+    if verdict > 2:
+        raise Refused(5)
+    inputs = first.to_bytes(2, "little") + second.to_bytes(2, "little")
+    return written(buffer, bytes([0x51, 0x56, verdict]) + inputs + bytes([pins, sums, turns, joins, left]))
+
+
+def read_report(data):
+    """The eight fields; raises Refused."""
+    if len(data) < 12:
+        raise Refused(1)
+    if data[:2] != b"QV":
+        raise Refused(2)
+    if data[2] > 2:
+        raise Refused(5)
+    return (data[2], data[3] + 256 * data[4], data[5] + 256 * data[6], *data[7:12])
 
 
 def odd(mask):
@@ -148,10 +202,9 @@ class Sum:
 
 
 def inputs_by_weight(n):
+    """The inputs of weight 1, then 2, then 3, lower numbers first."""
     for weight in (1, 2, 3):
-        for x in range(1 << n):
-            if bin(x).count("1") == weight:
-                yield x
+        yield from sorted(sum(1 << q for q in chosen) for chosen in combinations(range(n), weight))
 
 
 def built(n, first, second):
@@ -162,15 +215,17 @@ def built(n, first, second):
     return s
 
 
-def compare(n, first, second):
-    """The eight fields of the result."""
+def compare(n, first, second, events=None):
+    """The eight fields of the result. What happened on the way is added to events, a list of words."""
     s = built(n, first, second)
     pins = sums = turns = joins = 0
+    events = [] if events is None else events
 
     def result(verdict, a, b):
         return (verdict, a, b, pins, sums, turns, joins, len(s.live))
 
-    def blocked(mask, bit):
+    def blocked(step, mask, bit):
+        events.append(f"{step} blocked by {'its constant' if bit else 'a qubit'}")
         shown = 0 if bit else mask & -mask
         return result("different", shown, shown)
 
@@ -184,17 +239,19 @@ def compare(n, first, second):
         if z is not None:
             s.replace(z, mask ^ 1 << z, bit)
             pins += 1
+            events.append(f"pin, constant {bit}")
         elif mask or bit:
-            return blocked(mask, bit)
+            return blocked("pin", mask, bit)
     while s.live:
         candidates = [y for y in s.live if s.ready(y)]
         if not candidates:
+            events.append("none ready")
             return result("undecided", 0, 0)
         y = min(candidates)
         c, linear = s.halves(y)
         z = lowest(linear)
         if c % 2 == 0 and (c or linear) and z is None:
-            return blocked(linear, c // 2)
+            return blocked("join", linear, c // 2)
         s.take_out(y)
         s.live.remove(y)
         if c % 2:
@@ -202,15 +259,19 @@ def compare(n, first, second):
             s.constant = (s.constant + turn) % 8
             s.put(-2 * turn, linear, 0)
             turns += 1
+            events.append(f"turn, C = {c}")
         elif c or linear:
             s.replace(z, linear ^ 1 << z, c // 2)
             joins += 1
+            events.append(f"join, C = {c}")
         else:
             sums += 1
     if pins != sums:
+        events.append("pins differ from sums")
         return result("different", 0, 0)
     for x in inputs_by_weight(n):
         if s.phase(x) != s.phase(0):
+            events.append(f"difference of weight {bin(x).count('1')}")
             return result("different", 0, x)
     return result("equal", 0, 0)
 
@@ -233,6 +294,29 @@ def check_pair(n, first, m, second):
         raise Refused(8)
     if n + sum(k == H for k, _, _ in first + second) > 64:
         raise Refused(9)
+
+
+def read_pair(first, second, words, places):
+    """n and both lists of a pair that is accepted with workspaces of so many words and byte places; raises Refused."""
+    n, gates, _ = read_record(first)
+    m, others, _ = read_record(second)
+    check_pair(n, gates, m, others)
+    if words < PLACES or places < PLACES:
+        raise Refused(10)
+    return n, gates, others
+
+
+def t_gates(gates):
+    return sum(kind in (T, TI) for kind, _, _ in gates)
+
+
+def pick(first, second, words, places, events=None):
+    """The record that the pick hands back, and whether it is the second; raises Refused."""
+    n, gates, others = read_pair(first, second, words, places)
+    verdict = compare(n, gates, others, events)[0]
+    if verdict == "equal" and (t_gates(others), len(others)) < (t_gates(gates), len(gates)):
+        return record(n, others), True
+    return record(n, gates), False
 
 
 # Exact amplitudes: a + bω + cω² + dω³ as (a, b, c, d).

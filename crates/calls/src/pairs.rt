@@ -1,0 +1,122 @@
+// Rows of calls on a pair. The numbers say how many words and bytes of the workspaces are lent, and with what all their places begin.
+use crate::workspaces;
+use comparison::Answer;
+use comparison::Outcome;
+use row_text::are_below;
+use row_text::are_numbers;
+use row_text::byte;
+use row_text::number;
+use row_text::print;
+
+// A verdict's word, by its number.
+fn verdict(number: u8) {
+    match number {
+        0 => print::text(b"equal"),
+        1 => print::text(b"different"),
+        2 => print::text(b"undecided"),
+        _ => print::text(b"no verdict"),
+    }
+}
+
+// The result line, from the outcome as a report.
+fn outcome(o: Outcome) {
+    let r = comparison::report_of(o);
+    verdict(r.verdict);
+    let counts = [r.pins, r.sums, r.turns, r.joins, r.left];
+    print::result(r.first, r.second, counts);
+}
+
+// compare: the result line, or the refusal.
+fn compare(first: &[u8], second: &[u8], sets: &mut [u64], coeffs: &mut [u8]) {
+    match comparison::compare(first, second, sets, coeffs) {
+        Answer::Compared(o) => outcome(o),
+        Answer::Refused(r) => print::refused(comparison::number(r)),
+    }
+}
+
+// Is a part the record at the start of a list, as long as its count of gates says?
+fn is_record_of(part: &[u8], list: &[u8]) -> bool {
+    let low = byte(list, 3) as usize;
+    let high = byte(list, 4) as usize;
+    let size = 5 + 3 * (low + 256 * high);
+    if size > list.len() {
+        return false;
+    }
+    check::same(part, &list[0..size])
+}
+
+// Which list a part is, by content and length.
+fn which(part: &[u8], first: &[u8], second: &[u8]) {
+    if part.len() == 0 {
+        print::text(b"empty");
+        return;
+    }
+    if is_record_of(part, first) {
+        print::text(b"first");
+        return;
+    }
+    if is_record_of(part, second) {
+        print::text(b"second");
+        return;
+    }
+    print::text(b"other");
+}
+
+// pick: which list came back, and its bytes.
+fn pick<'a>(first: &'a [u8], second: &'a [u8], sets: &mut [u64], coeffs: &mut [u8]) {
+    let part = comparison::pick(first, second, sets, coeffs);
+    which(part, first, second);
+    print::bytes(part);
+}
+
+// The call, in the first so many places of each workspace.
+fn in_first<'a>(
+    picks: bool,
+    first: &'a [u8],
+    second: &'a [u8],
+    sets: &mut [u64],
+    words: usize,
+    coeffs: &mut [u8],
+    bytes: usize,
+) {
+    if words > sets.len() {
+        print::bad();
+        return;
+    }
+    if bytes > coeffs.len() {
+        print::bad();
+        return;
+    }
+    let sets = &mut sets[0..words];
+    let coeffs = &mut coeffs[0..bytes];
+    if picks {
+        pick(first, second, sets, coeffs);
+        return;
+    }
+    compare(first, second, sets, coeffs);
+}
+
+// Are these three numbers, the first two of them no more than the places there are?
+fn is_well(numbers: &[u8]) -> bool {
+    if !are_numbers(numbers, 3) {
+        return false;
+    }
+    are_below(numbers, 0, 2, 3201)
+}
+
+// The call, and the workspaces afterwards.
+pub(crate) fn run<'a>(picks: bool, numbers: &[u8], first: &'a [u8], second: &'a [u8]) {
+    if !is_well(numbers) {
+        print::bad();
+        return;
+    }
+    let words = number(numbers, 0);
+    let bytes = number(numbers, 1);
+    let seed = number(numbers, 2) as u64;
+    let mut sets = [0u64; 3200];
+    let mut coeffs = [0u8; 3200];
+    workspaces::fill_words(&mut sets, seed);
+    workspaces::fill_bytes(&mut coeffs, seed);
+    in_first(picks, first, second, &mut sets, words, &mut coeffs, bytes);
+    workspaces::show(&sets, &coeffs, seed);
+}

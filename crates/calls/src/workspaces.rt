@@ -1,0 +1,109 @@
+// What the workspaces hold before a call and afterwards. Before, place after place holds the next number of a row that begins with the seed:
+// never 0, but for the seed 0, with which every place is 0.
+use row_text::plus;
+use row_text::print;
+
+// The places that a comparison uses.
+const PLACES: usize = 3136;
+
+// The number behind one: Marsaglia's xorshift, which leads from 0 to 0 alone.
+fn next(x: u64) -> u64 {
+    let y = x ^ (x << 13);
+    let z = y ^ (y >> 7);
+    z ^ (z << 17)
+}
+
+// The byte of a number: 0 of 0 alone.
+fn byte_of(x: u64) -> u8 {
+    if x == 0 { 0 } else { (x % 255 + 1) as u8 }
+}
+
+// Words before a call.
+pub(crate) fn fill_words(words: &mut [u64], seed: u64) {
+    let mut x = seed;
+    let mut i = 0;
+    while i < words.len() {
+        words[i] = x;
+        x = next(x);
+        i += 1;
+    }
+}
+
+// Bytes before a call.
+pub(crate) fn fill_bytes(bytes: &mut [u8], seed: u64) {
+    let mut x = seed;
+    let mut i = 0;
+    while i < bytes.len() {
+        bytes[i] = byte_of(x);
+        x = next(x);
+        i += 1;
+    }
+}
+
+// How many of the places that a comparison uses are 0, and how many of all hold what they held before.
+struct Seen {
+    zero: usize,
+    kept: usize,
+}
+
+// One place more.
+fn and(seen: Seen, is_zero: bool, is_kept: bool) -> Seen {
+    Seen {
+        zero: plus(seen.zero, is_zero),
+        kept: plus(seen.kept, is_kept),
+    }
+}
+
+// The words afterwards.
+fn words_seen(words: &[u64], seed: u64) -> Seen {
+    let mut seen = Seen { zero: 0, kept: 0 };
+    let mut x = seed;
+    let mut i = 0;
+    while i < words.len() {
+        let word = words[i];
+        seen = and(seen, is_zero_place(word, i), word == x);
+        x = next(x);
+        i += 1;
+    }
+    seen
+}
+
+// Is this a place that a comparison uses, and does it hold 0?
+fn is_zero_place(held: u64, at: usize) -> bool {
+    if at < PLACES { held == 0 } else { false }
+}
+
+// The bytes afterwards.
+fn bytes_seen(bytes: &[u8], seed: u64) -> Seen {
+    let mut seen = Seen { zero: 0, kept: 0 };
+    let mut x = seed;
+    let mut i = 0;
+    while i < bytes.len() {
+        let byte = bytes[i];
+        seen = and(seen, is_zero_place(wide(byte), i), byte == byte_of(x));
+        x = next(x);
+        i += 1;
+    }
+    seen
+}
+
+// A byte as a word.
+fn wide(x: u8) -> u64 {
+    x as u64
+}
+
+// What was seen of a workspace.
+fn show_seen(seen: Seen) {
+    print::text(b" zero");
+    print::number(seen.zero);
+    print::text(b" kept");
+    print::number(seen.kept);
+}
+
+// Both workspaces afterwards.
+pub(crate) fn show(sets: &[u64], coeffs: &[u8], seed: u64) {
+    print::text(b", sets");
+    show_seen(words_seen(sets, seed));
+    print::text(b", coeffs");
+    show_seen(bytes_seen(coeffs, seed));
+}

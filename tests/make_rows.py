@@ -1,0 +1,64 @@
+#!/usr/bin/env python3
+"""Writes the rows of the program calls and what it must print for them, from tests/rows.txt.
+
+    python3 tests/make_rows.py [--check]
+
+The files go to crates/calls/stdin and stdout; the gate runs the program on the one and compares with the other. Every answer of rows.txt
+is held to the independent implementation beside this file, and the engine has no part in it. With --check nothing is written: the files
+must be those that would be.
+"""
+import os
+import re
+import sys
+
+import call_rows
+
+HERE = os.path.dirname(os.path.abspath(__file__))
+PROGRAM = os.path.join(HERE, "..", "crates", "calls")
+
+
+def repeated(text):
+    """{TEXT*N} as TEXT, N times."""
+    return re.sub(r"\{([^{}*]*)\*(\d+)\}", lambda m: m[1] * int(m[2]), text)
+
+
+def read_rows(path):
+    """The rows of a file and the answers written for them."""
+    with open(path) as lines:
+        for number, line in enumerate(lines, 1):
+            line = line.rstrip("\n")
+            if not line or line.startswith("#"):
+                continue
+            row, arrow, answer = line.rpartition(" => ")
+            if not arrow:
+                sys.exit(f"{path}:{number}: no answer")
+            yield number, repeated(row), repeated(answer)
+
+
+def expected(number, row, answer):
+    """The line of a row, where the written answer is the independent implementation's, but perhaps for the workspaces."""
+    want = call_rows.answer(row)
+    if want != answer and want.split(", sets ")[0] != answer:
+        sys.exit(f"rows.txt:{number}: written {answer!r}, but the independent implementation says {want!r}")
+    return call_rows.line(row)
+
+
+def main():
+    rows, lines = [], []
+    for number, row, answer in read_rows(os.path.join(HERE, "rows.txt")):
+        rows.append(row)
+        lines.append(expected(number, row, answer))
+    lines.append(f"rows {len(rows)}")
+    for name, content in (("stdin", rows), ("stdout", lines)):
+        text = "".join(line + "\n" for line in content)
+        path = os.path.join(PROGRAM, name)
+        if "--check" not in sys.argv:
+            with open(path, "w") as out:
+                out.write(text)
+        elif open(path).read() != text:
+            sys.exit(f"crates/calls/{name} is not what rows.txt says: run tests/make_rows.py")
+    print(len(rows), "rows")
+
+
+if __name__ == "__main__":
+    main()
