@@ -3,8 +3,8 @@
 
     rt check compare && python3 bench/compare.py [--write]
 
-Counted by valgrind's callgrind, less those of a pair of empty lists. All pairs are on 16 qubits, with 48 H gates in both lists
-together. With --write the tables go to docs/BENCHMARKS.md.
+Counted by valgrind's callgrind, less those of a pair of empty lists. The large families are on 16 qubits, with 48 H gates in both lists
+together; two more have no H gate and no term, and one is of small pairs. With --write the tables go to docs/BENCHMARKS.md.
 """
 import os
 import random
@@ -16,29 +16,36 @@ import time
 
 ROOT = os.path.join(os.path.dirname(os.path.abspath(__file__)), "..")
 ENGINE = os.path.join(ROOT, "target", "bin", "compare")
-QUBITS = 16
-HADAMARDS = 24
-LENGTHS = (64, 128, 256, 512)
 PAIRS = 5
 X, Y, Z, S, SI, T, TI, H, CX, CZ, SWAP = range(11)
 INVERSE = {S: SI, SI: S, T: TI, TI: T}
-# family: the kinds that are drawn, beside H
-KINDS = {
-    "Clifford": [X, Y, Z, S, SI, CX, CX, CZ, CZ, SWAP],
-    "T-heavy": [T, T, TI, S, CX, CX, CX],
-    "CZ-heavy": [CZ, CZ, CZ, CZ, S, CX],
-    "mixed": [X, Z, S, T, TI, CX, CX, CZ, SWAP],
+
+
+class Family:
+    """Pairs drawn alike: the kinds beside H, the qubits, the H gates of each list, the lengths, and a bar at 512 gates, if any."""
+
+    def __init__(self, kinds, qubits=16, hadamards=24, lengths=(64, 128, 256, 512), bar=None):
+        self.kinds, self.qubits, self.hadamards, self.lengths, self.bar = kinds, qubits, hadamards, lengths, bar
+
+
+FAMILIES = {
+    "Clifford": Family([X, Y, Z, S, SI, CX, CX, CZ, CZ, SWAP], bar=5_000_000),
+    "T-heavy": Family([T, T, TI, S, CX, CX, CX], bar=3_000_000),
+    "CZ-heavy": Family([CZ, CZ, CZ, CZ, S, CX], bar=16_000_000),
+    "mixed": Family([X, Z, S, T, TI, CX, CX, CZ, SWAP], bar=4_000_000),
+    "X only": Family([X], hadamards=0, lengths=(512,)),
+    "CX only": Family([CX], hadamards=0, lengths=(512,)),
+    "small": Family([X, Z, S, SI, T, TI, CX, CX, CZ], qubits=4, hadamards=4, lengths=(20,)),
 }
-BARS = {"Clifford": 5_000_000, "T-heavy": 3_000_000, "CZ-heavy": 16_000_000, "mixed": 4_000_000}
 
 
-def draw(rng, kinds, length):
-    """A list of so many gates with 24 H gates at random places."""
-    places = set(rng.sample(range(length), HADAMARDS))
+def draw(rng, family, length):
+    """A list of so many gates, its H gates at random places."""
+    places = set(rng.sample(range(length), family.hadamards))
     gates = []
     for i in range(length):
-        kind = H if i in places else rng.choice(kinds)
-        a, b = rng.sample(range(QUBITS), 2)
+        kind = H if i in places else rng.choice(family.kinds)
+        a, b = rng.sample(range(family.qubits), 2)
         gates.append((kind, a, b if kind > H else 255))
     return gates
 
@@ -67,17 +74,18 @@ def changed(rng, gates):
             return gates
 
 
-def record(gates):
-    return bytes([0x51, 0x43, QUBITS, len(gates) & 255, len(gates) >> 8]) + b"".join(map(bytes, gates))
+def record(gates, qubits=16):
+    return bytes([0x51, 0x43, qubits, len(gates) & 255, len(gates) >> 8]) + b"".join(map(bytes, gates))
 
 
-def pairs(family, length, seed):
+def pairs(name, length, seed):
     """Five pairs: three equal ones, by rewriting, and two with one gate changed besides."""
-    rng = random.Random(f"{family} {length} {seed}")
+    rng = random.Random(f"{name} {length} {seed}")
+    family = FAMILIES[name]
     for i in range(PAIRS):
-        first = draw(rng, KINDS[family], length)
+        first = draw(rng, family, length)
         second = rewritten(rng, first)
-        yield record(first) + record(second if i < 3 else changed(rng, second))
+        yield record(first, family.qubits) + record(second if i < 3 else changed(rng, second), family.qubits)
 
 
 def fifteen(qubits):
@@ -102,7 +110,7 @@ def busy_pair():
     for _ in range(2):
         gates = []
         while len(gates) + 41 <= 512:
-            gates += fifteen(rng.sample(range(QUBITS), 4))
+            gates += fifteen(rng.sample(range(16), 4))
         lists.append(gates)
     return record(lists[0]) + record(lists[1])
 
@@ -135,48 +143,59 @@ def timed(command, data):
     return time.perf_counter() - start
 
 
+def same_line(plain, data):
+    """What both programs print."""
+    line, other = run([ENGINE], data).stdout, run([plain], data).stdout
+    if line != other:
+        sys.exit(f"the engine prints {line!r}, the plain program {other!r}, for {data.hex()}")
+    return line
+
+
+def measured(plain, base, datas):
+    """The means of both programs' instructions over some pairs, and how the pairs came out."""
+    ours, theirs, tally = [], [], {"equal": 0, "different": 0, "undecided": 0}
+    for data in datas:
+        tally[same_line(plain, data).split()[0].decode()] += 1
+        ours.append(instructions(ENGINE, data) - base[ENGINE])
+        theirs.append(instructions(plain, data) - base[plain])
+    return mean(ours), mean(theirs), tally
+
+
+def tables(plain):
+    base = {program: instructions(program, record([]) + record([])) for program in (ENGINE, plain)}
+    lines = ["| family | gates a list | engine | plain Rust | ratio | equal | different | undecided |", "|---|---|---|---|---|---|---|---|"]
+    growth, everything = {}, []
+    for name, family in FAMILIES.items():
+        for length in family.lengths:
+            datas = list(pairs(name, length, 1))
+            everything += datas
+            ours, theirs, tally = measured(plain, base, datas)
+            growth[name, length] = ours
+            verdicts = " | ".join(str(tally[v]) for v in ("equal", "different", "undecided"))
+            lines.append(f"| {name} | {length} | {ours:,} | {theirs:,} | {ours / theirs:.2f} | {verdicts} |")
+            print(lines[-1], flush=True)
+    lines += ["", "| family | 128 to 512 gates | bar at 512 |", "|---|---|---|"]
+    for name, family in FAMILIES.items():
+        if family.bar:
+            times = growth[name, 512] / growth[name, 128]
+            lines.append(f"| {name} | {times:.2f} times | {growth[name, 512] / family.bar:.2f} of {family.bar:,} |")
+    busy = busy_pair()
+    ours, theirs, _ = measured(plain, base, [busy])
+    lines += ["", f"A pair that keeps the search busy: {ours:,} against {theirs:,}, {ours / theirs:.2f} times."]
+    lines += ["", f"Slowest run of all these pairs, the process's start among it: {slowest(ENGINE, everything + [busy]):.1f} ms."]
+    return lines
+
+
 def main():
-    lines = []
     with tempfile.TemporaryDirectory() as folder:
         plain = os.path.join(folder, "plain")
         subprocess.run(["rustc", "--edition", "2021", "-O", "-o", plain, os.path.join(ROOT, "bench", "plain.rs")], check=True)
-        empty = record([]) + record([])
-        base = {program: instructions(program, empty) for program in (ENGINE, plain)}
-        lines.append("| family | gates a list | engine | plain Rust | ratio | equal | different | undecided |")
-        lines.append("|---|---|---|---|---|---|---|---|")
-        growth = {}
-        everything = []
-        for family in KINDS:
-            for length in LENGTHS:
-                ours, theirs, tally = [], [], {"equal": 0, "different": 0, "undecided": 0}
-                for data in pairs(family, length, 1):
-                    everything.append(data)
-                    line = run([ENGINE], data).stdout
-                    assert line == run([plain], data).stdout, line
-                    tally[line.split()[0].decode()] += 1
-                    ours.append(instructions(ENGINE, data) - base[ENGINE])
-                    theirs.append(instructions(plain, data) - base[plain])
-                growth[family, length] = mean(ours)
-                ratio = mean(ours) / mean(theirs)
-                lines.append(
-                    f"| {family} | {length} | {mean(ours):,} | {mean(theirs):,} | {ratio:.2f} | "
-                    f"{tally['equal']} | {tally['different']} | {tally['undecided']} |"
-                )
-                print(lines[-1], flush=True)
-        lines += ["", "| family | 128 to 512 gates | bar at 512 |", "|---|---|---|"]
-        for family in KINDS:
-            times = growth[family, 512] / growth[family, 128]
-            lines.append(f"| {family} | {times:.2f} times | {growth[family, 512] / BARS[family]:.2f} of {BARS[family]:,} |")
-        busy = busy_pair()
-        everything.append(busy)
-        assert run([ENGINE], busy).stdout == run([plain], busy).stdout
-        ours, theirs = (instructions(program, busy) - base[program] for program in (ENGINE, plain))
-        lines += ["", f"A pair that keeps the search busy: {ours:,} against {theirs:,}, {ours / theirs:.2f} times."]
-        lines += ["", f"Slowest run of all these pairs, the process's start among it: {slowest(ENGINE, everything):.1f} ms."]
+        lines = tables(plain)
     print("\n".join(lines))
     if "--write" in sys.argv:
         path = os.path.join(ROOT, "docs", "BENCHMARKS.md")
-        text = open(path).read()
+        with open(path) as old:
+            text = old.read()
         head, _, rest = text.partition("<!-- tables -->\n")
         _, _, tail = rest.partition("<!-- end -->\n")
         with open(path, "w") as out:

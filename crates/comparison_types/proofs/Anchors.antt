@@ -5,12 +5,16 @@ use Prim.Native.Nat.{ℕ, _≤_}
 use native.Mathlib.Omega.{arith}
 use mathlib.Core.List.{[], _∷_}
 use Rattle.record_format.specs.Format.{lastVerdict}
-use Rattle.comparison_meaning.specs.Verdict.{number}
+use Rattle.comparison_meaning.specs.Verdict.{equal, different, undecided, number}
 use Rattle.comparison_types.specs.Call.{verdictNumber, verdictOf, refuses, leftBy, theSecond, pickedAt}
 use Rattle.comparison_types.specs.declared.Verdict.{Verdict}
 use Rattle.comparison_types.specs.declared.Verdict.the-variants.{Equal, Different, Undecided}
 
--- each case of the enum has its verdict's number
+-- each case of the enum stands for the verdict of its name
+pub verdicts-named : (verdictOf Equal ≡ equal) × ((verdictOf Different ≡ different) × (verdictOf Undecided ≡ undecided))
+verdicts-named = (refl, (refl, refl))
+
+-- and has its verdict's number
 pub verdict-numbered : (v : Verdict) → number (verdictOf v) ≡ verdictNumber v
 verdict-numbered Equal = refl
 verdict-numbered Different = refl
