@@ -1,4 +1,4 @@
--- Counting the gates of a list by its bytes: what a gate weighs by its kind, and what a loop that adds up a weight of at most 1 a
+-- Counting the gates of a list by its bytes: what a gate weighs by its kind, and what a loop that adds up a weight of at most 3 a
 -- gate has counted when it stands at a byte.
 -- Assumes nothing.
 use mathlib.Core.Path.{_≡_, refl}
@@ -17,6 +17,9 @@ use Rattle.amplitude.specs.Bits.{digit}
 use Rattle.amplitude.specs.Circuit.{tally, isH, isT}
 use Rattle.amplitude.proofs.BitLaws.{digit-below}
 use Rattle.phase_sum_terms.specs.Unmerged.{gatesIn}
+use Rattle.phase_sum_terms.specs.Inner.{weightOf}
+use Rattle.phase_sum_terms.specs.declared.counting.Weight.{Weight}
+use Rattle.phase_sum_terms.specs.declared.counting.Weight.the-variants as weight
 
 -- a weight that the gates on one qubit have by their kinds' numbers, and those on two qubits by any number above 7
 module _
@@ -45,11 +48,11 @@ module _
         above (suc (suc (suc (suc (suc (suc (suc (suc k)))))))) a b (omega arith)
 
 -- the kind byte of H
-abbrev pub hKind : ℕ → Bool
+abbrev hKind : ℕ → Bool
 hKind k = eqb k 7
 
 -- the kind bytes of T and its inverse
-abbrev pub tKind : ℕ → Bool
+abbrev tKind : ℕ → Bool
 tKind k = eqb k 5 || eqb k 6
 
 -- a gate is an H by its kind byte
@@ -60,7 +63,14 @@ h-by-kind = by-kind isH hKind (λ u a. refl) (λ v a b k l. rw (ne-eqb k 7 (omeg
 pub t-by-kind : (k a b : ℕ) → isT (gateOf (raw k a b)) ≡ digit (tKind k)
 t-by-kind = by-kind isT tKind (λ u a. refl) (λ v a b k l. rw (ne-eqb k 5 (omega arith), ne-eqb k 6 (omega arith)))
 
--- the gates in front of byte i are counted, and sum is their weight
+-- no gate weighs more than 1
+pub light : (w : Weight) (g : Gate) → weightOf w g ≤ 1
+light weight.H (one u q) = omega (arith, digit-below (eqb (oneQubitKind u) 7))
+light weight.H (two v a b) = omega arith
+light weight.T (one u q) = omega (arith, digit-below (eqb (oneQubitKind u) 5 || eqb (oneQubitKind u) 6))
+light weight.T (two v a b) = omega arith
+
+-- the gates in front of byte i are counted, and sum is their weight; as no gate weighs more than its three bytes, it is at most i
 pub record Counted (weight : Gate → ℕ) (gates : List ℕ) (sum i : ℕ) : Type 0 where
   pub inside : i ≤ length gates
   pub small : sum ≤ i
@@ -72,20 +82,19 @@ counted-none = record { inside = omega arith; small = omega arith; rest = omega 
 
 -- a turn counts the gate whose three bytes come next
 pub counted-more :
-    {weight : Gate → ℕ} {gates : List ℕ} {sum i r : ℕ} (f : ℕ → Bool) →
-    ((k a b : ℕ) → weight (gateOf (raw k a b)) ≡ digit (f k)) →
+    {weight : Gate → ℕ} {gates : List ℕ} {sum i r : ℕ} →
+    ((g : Gate) → weight g ≤ 3) →
     Counted weight gates sum i →
     3 ≤ length gates - i →
     ((a b : ℕ) → r ≡ weight (gateOf (raw (getD gates i 0) a b))) →
     Counted weight gates (sum + r) (i + 3)
 unfolding raws tally
-counted-more {weight} {gates} {sum} {i} {r} f is before left next =
-    let k = getD gates i 0 in
+counted-more {weight} {gates} {sum} {i} {r} most before left next =
     let a = getD gates (i + 1) 0 in
     let b = getD gates (i + 2) 0 in
     let weighs = next a b in
     let rest = rw (three-at gates i (omega arith)) at (before .rest) in
-    record { inside = omega arith; small = omega (arith, is k a b, digit-below (f k)); rest = omega arith }
+    record { inside = omega arith; small = omega (arith, most (gateOf (raw (getD gates i 0) a b))); rest = omega arith }
 
 -- fewer than three bytes are no gate
 no-gate : (bytes : List ℕ) → length bytes < 3 → gatesIn bytes ≡ []
