@@ -10,13 +10,14 @@ ghost use Rattle.comparison_meaning.specs.Reduction.{reduceEnd};
 ghost use Rattle.comparison_meaning.specs.Verdict.{compare};
 ghost use Rattle.comparison_types.specs.Call.{resultOf, saidOf, comparison, leftBy};
 ghost use Rattle.comparison_types.specs.Clauses.{Sound, Stops, Inputs, Clifford, CountsUp};
-ghost use Rattle.comparison_types.specs.Inner.{members, sumBuilt, sumOf, endOf, Sized, Kept, Follows, FewSteps};
+ghost use Rattle.comparison_types.specs.Inner.{members, sumBuilt, sumOf, endOf, Sized, Kept, Follows, FewSteps, answerOf, ComparedRead};
 use comparison_checking::PLACES;
-use comparison_checking::check_pair;
+use comparison_checking::check_call;
 use comparison_judging::judging::judge;
 use comparison_reducing::pinning::pin;
 use comparison_reducing::reducing::reduce;
 use comparison_types::Answer;
+use comparison_types::Comparison;
 use comparison_types::Counts;
 use comparison_types::End;
 use comparison_types::Outcome;
@@ -27,7 +28,7 @@ use phase_sum_terms::Sum;
 use phase_sum_terms::sets::single;
 use phase_sum_terms::sets::union;
 use phase_sum_terms::terms::clear;
-use record_reading::gates;
+use record_reading::gate_bytes;
 
 // The variables from n up to next, as a set.
 fn path_variables(n: u32, next: u32) -> u64
@@ -91,6 +92,22 @@ fn decide(n: usize, first: &[u8], second: &[u8], sets: &mut [u64], coeffs: &mut 
     judge(end, sets, coeffs)
 }
 
+// Two lists compared, each read once: the outcome with the gates of both lists, or why the pair is turned down.
+pub fn compare_read(first: &[u8], second: &[u8], sets: &mut [u64], coeffs: &mut [u8]) -> Comparison
+    ensures steps { λ r. ⌜ saidOf (answerOf r) ≡ comparison (now (first .entry)) (now (second .entry)) (length (now (sets .entry))) (length (now (coeffs .entry))) ⌝ }
+    ensures kept { λ r. ⌜ (now (sets .exit) ≡ leftBy (saidOf (answerOf r)) (now (sets .entry))) × (now (coeffs .exit) ≡ leftBy (saidOf (answerOf r)) (now (coeffs .entry))) ⌝ }
+    ensures found { λ r. ⌜ ComparedRead r (now (first .entry)) (now (second .entry)) ⌝ }
+{
+    match check_call(first, second, sets.len(), coeffs.len()) {
+        PairCheck::Refused(refusal) => Comparison::Refused(refusal),
+        PairCheck::Good { n, g, h } => {
+            let outcome = decide(n, gate_bytes(first, g), gate_bytes(second, h), sets, coeffs);
+            clear(sets, coeffs, PLACES);
+            Comparison::Done { outcome, g, h }
+        }
+    }
+}
+
 // Two lists compared: the verdict with its inputs and counts, or why the pair is turned down.
 pub fn compare(first: &[u8], second: &[u8], sets: &mut [u64], coeffs: &mut [u8]) -> Answer
     ensures steps { λ r. ⌜ saidOf r ≡ comparison (now (first .entry)) (now (second .entry)) (length (now (sets .entry))) (length (now (coeffs .entry))) ⌝ }
@@ -101,12 +118,12 @@ pub fn compare(first: &[u8], second: &[u8], sets: &mut [u64], coeffs: &mut [u8])
     ensures clifford { λ r. ⌜ Clifford (now (first .entry)) (now (second .entry)) r ⌝ }
     ensures counts { λ r. ⌜ CountsUp (now (first .entry)) (now (second .entry)) r ⌝ }
 {
-    match check_pair(first, second, sets.len(), coeffs.len()) {
-        PairCheck::Refused(refusal) => Answer::Refused(refusal),
-        PairCheck::Good(n) => {
-            let outcome = decide(n, gates(first), gates(second), sets, coeffs);
-            clear(sets, coeffs, PLACES);
-            Answer::Compared(outcome)
-        }
+    match compare_read(first, second, sets, coeffs) {
+        Comparison::Refused(refusal) => Answer::Refused(refusal),
+        Comparison::Done {
+            outcome,
+            g: _,
+            h: _,
+        } => Answer::Compared(outcome),
     }
 }

@@ -1,41 +1,38 @@
 // The pick: of two lists that compare equal, the record with fewer T gates. Document 01, "Report, pick, builder".
 ghost use mathlib.Core.Path.{_≡_};
-ghost use Prim.Native.Nat.{ℕ};
+ghost use Prim.Native.Nat.{_≤_};
 ghost use mathlib.Core.Bool.{_&&_};
-ghost use mathlib.Core.List.{List};
-ghost use lib.ListN.{length};
-ghost use Rattle.record_format.specs.Gate.{Gate};
-ghost use Rattle.record_format.specs.Reading.{accepted, read};
-ghost use Rattle.comparison_types.specs.Call.{comparison, leftBy, verdictOf, isEqual, better, picked, ownBytes, pickedPart, pickedAt};
+ghost use lib.ListN.{length, take};
+ghost use Rattle.record_format.specs.Reading.{size};
+ghost use Rattle.phase_sum_terms.specs.Unmerged.{gatesIn};
+ghost use Rattle.comparison_types.specs.Call.{comparison, leftBy, verdictOf, isEqual, better, picked, pickedPart, pickedAt};
 ghost use Rattle.comparison_types.specs.Clauses.{PickIsRight, EmptyIfRefused};
-ghost use Rattle.comparison_types.specs.Inner.{AcceptedOn};
-use crate::comparing::compare;
-use comparison_types::Answer;
+use crate::comparing::compare_read;
+use comparison_types::Comparison;
 use comparison_types::Verdict;
 use phase_sum_terms::counting::t_gates;
+use record_format::GATE_SIZE;
 use record_format::HEAD_SIZE;
-use record_reading::gates;
+use record_reading::gate_bytes;
 
-// Is the second list better: fewer T gates, or as many and fewer gates?
+// Is the second list better: fewer T gates, or as many and fewer gates? By the gate bytes of both.
 fn second_is_better(first: &[u8], second: &[u8]) -> bool
-    ensures { λ r. ⌜ ((n m : ℕ) (gs hs : List Gate) → read (now (first .entry)) ≡ accepted n gs → read (now (second .entry)) ≡ accepted m hs → r ≡ better gs hs) ⌝ }
+    ensures { λ r. ⌜ r ≡ better (gatesIn (now (first .entry))) (gatesIn (now (second .entry))) ⌝ }
 {
-    let here = gates(first);
-    let there = gates(second);
-    let t = t_gates(here);
-    let u = t_gates(there);
+    let t = t_gates(first);
+    let u = t_gates(second);
     if u < t {
         return true;
     }
     if t < u {
         return false;
     }
-    there.len() < here.len()
+    second.len() / GATE_SIZE < first.len() / GATE_SIZE
 }
 
-// Is the second list taken: the verdict is equal, and the second list is better?
+// Is the second list taken: the verdict is equal, and the second list is better? By the gate bytes of both.
 fn takes_second(verdict: Verdict, first: &[u8], second: &[u8]) -> bool
-    ensures { λ r. ⌜ ((n m : ℕ) (gs hs : List Gate) → read (now (first .entry)) ≡ accepted n gs → read (now (second .entry)) ≡ accepted m hs → r ≡ isEqual (verdictOf verdict) && better gs hs) ⌝ }
+    ensures { λ r. ⌜ r ≡ isEqual (verdictOf verdict) && better (gatesIn (now (first .entry))) (gatesIn (now (second .entry))) ⌝ }
 {
     match verdict {
         Verdict::Equal => second_is_better(first, second),
@@ -44,14 +41,13 @@ fn takes_second(verdict: Verdict, first: &[u8], second: &[u8]) -> bool
     }
 }
 
-// The record at the start of an accepted list's bytes.
-fn whole(s: &[u8]) -> &[u8]
-    requires { ⌜ ((n : ℕ) × AcceptedOn n (now s)) ⌝ }
-    ensures content { λ r. ⌜ now r ≡ ownBytes (now (s .entry)) ⌝ }
+// The bytes of a record of g gates at the start of s.
+fn whole(s: &[u8], g: usize) -> &[u8]
+    requires { ⌜ size g ≤ length (now s) ⌝ }
+    ensures content { λ r. ⌜ now r ≡ take (size g) (now (s .entry)) ⌝ }
     ensures own { λ r. ⌜ r .ptr ≡ s .entry .ptr ⌝ }
 {
-    let size = HEAD_SIZE + gates(s).len();
-    &s[..size]
+    &s[..HEAD_SIZE + GATE_SIZE * g]
 }
 
 // Of two lists that compare equal, the record of the better one, as the caller's own part; the first if they are different or undecided;
@@ -68,14 +64,14 @@ pub fn pick<'a, 'b, 'c>(
     ensures right { λ r. ⌜ PickIsRight (now (first .entry)) (now (second .entry)) (length (now (sets .entry))) (length (now (coeffs .entry))) (now r) ⌝ }
     ensures empty { λ r. ⌜ EmptyIfRefused (now (first .entry)) (now (second .entry)) (length (now (sets .entry))) (length (now (coeffs .entry))) (now r) ⌝ }
 {
-    match compare(first, second, sets, coeffs) {
-        Answer::Refused(_) => &first[..0],
-        Answer::Compared(outcome) => {
+    match compare_read(first, second, sets, coeffs) {
+        Comparison::Refused(_) => &first[..0],
+        Comparison::Done { outcome, g, h } => {
             let verdict = outcome.verdict;
-            if takes_second(verdict, first, second) {
-                return whole(second);
+            if takes_second(verdict, gate_bytes(first, g), gate_bytes(second, h)) {
+                return whole(second, h);
             }
-            whole(first)
+            whole(first, g)
         }
     }
 }

@@ -1,16 +1,19 @@
-// The comparison layer, checking: the checks on a pair, the first list, the second, then 8, 9 and 10. Document 01, "Where a call is turned
-// down".
+// The comparison layer, checking: the checks on a pair, in document 01's order ("Where a call is turned down"). The first list, the second, 8
+// and 9 are of the two records alone; 10, of the workspaces, stands by itself behind them.
 ghost use mathlib.Core.Path.{_≡_};
-ghost use Prim.Native.Nat.{ℕ};
+ghost use mathlib.Core.Bool.{_||_};
+ghost use mathlib.Core.List.{[]};
+ghost use lib.Dec.{ltb};
 ghost use Rattle.record_format.specs.Reading.{read};
-ghost use Rattle.comparison_types.specs.Call.{pairFault};
-ghost use Rattle.comparison_types.specs.Inner.{AcceptedOn, numberIn, pairNumber};
+ghost use Rattle.phase_sum_meaning.specs.Room.{places};
+ghost use Rattle.comparison_types.specs.Call.{workspaceRows, pairFault};
+ghost use Rattle.comparison_types.specs.Inner.{AcceptedWith, numberIn, pairNumber, PairRead};
 use comparison_types::PairCheck;
 use comparison_types::Refusal;
 use phase_sum_terms::counting::h_gates;
 use record_format::Checked;
 use record_reading::check;
-use record_reading::gates;
+use record_reading::gate_bytes;
 
 // The places of a workspace.
 pub const PLACES: usize = 3136;
@@ -18,44 +21,57 @@ pub const PLACES: usize = 3136;
 // The variables that a pair may have.
 pub const MOST_VARIABLES: usize = 64;
 
-// 8, 9 and 10, for two accepted lists.
-fn check_sizes(
-    first: &[u8],
-    second: &[u8],
-    n: usize,
-    m: usize,
-    words: usize,
-    bytes: usize,
-) -> PairCheck
-    requires { ⌜ AcceptedOn n (now first) × AcceptedOn m (now second) ⌝ }
-    ensures number { λ r. ⌜ pairNumber r ≡ numberIn (pairFault (read (now (first .entry))) (read (now (second .entry))) words bytes) ⌝ }
-    ensures qubits { λ r. ⌜ ((k : ℕ) → r ≡ PairCheck.Good k → (k ≡ n) × (k ≡ m)) ⌝ }
+// 8 and 9, for two accepted lists on n and m qubits, of g and h gates.
+fn check_sizes(first: &[u8], second: &[u8], n: usize, m: usize, g: usize, h: usize) -> PairCheck
+    requires { ⌜ AcceptedWith n g (now first) × AcceptedWith m h (now second) ⌝ }
+    ensures number { λ r. ⌜ pairNumber r ≡ numberIn (pairFault (read (now (first .entry))) (read (now (second .entry))) []) ⌝ }
+    ensures found { λ r. ⌜ PairRead r (now (first .entry)) (now (second .entry)) ⌝ }
 {
     if n != m {
         return PairCheck::Refused(Refusal::QubitsDiffer);
     }
-    if n + (h_gates(gates(first)) + h_gates(gates(second))) > MOST_VARIABLES {
+    if n + (h_gates(gate_bytes(first, g)) + h_gates(gate_bytes(second, h))) > MOST_VARIABLES {
         return PairCheck::Refused(Refusal::TooManyVariables);
     }
-    if words < PLACES {
-        return PairCheck::Refused(Refusal::WorkspaceShort);
-    }
-    if bytes < PLACES {
-        return PairCheck::Refused(Refusal::WorkspaceShort);
-    }
-    PairCheck::Good(n)
+    PairCheck::Good { n, g, h }
 }
 
-// All the checks, in document 01's order.
-pub fn check_pair(first: &[u8], second: &[u8], words: usize, bytes: usize) -> PairCheck
-    ensures number { λ r. ⌜ pairNumber r ≡ numberIn (pairFault (read (now (first .entry))) (read (now (second .entry))) words bytes) ⌝ }
-    ensures qubits { λ r. ⌜ ((n : ℕ) → r ≡ PairCheck.Good n → AcceptedOn n (now (first .entry)) × AcceptedOn n (now (second .entry))) ⌝ }
+// The checks on two records: the first list, the second, 8 and 9. Each list is read once, and what was found is handed on.
+pub fn check_pair(first: &[u8], second: &[u8]) -> PairCheck
+    ensures number { λ r. ⌜ pairNumber r ≡ numberIn (pairFault (read (now (first .entry))) (read (now (second .entry))) []) ⌝ }
+    ensures found { λ r. ⌜ PairRead r (now (first .entry)) (now (second .entry)) ⌝ }
 {
     match check(first) {
         Checked::Refused(refusal) => PairCheck::Refused(Refusal::List(refusal)),
-        Checked::Accepted { n, g: _ } => match check(second) {
+        Checked::Accepted { n, g } => match check(second) {
             Checked::Refused(refusal) => PairCheck::Refused(Refusal::List(refusal)),
-            Checked::Accepted { n: m, g: _ } => check_sizes(first, second, n, m, words, bytes),
+            Checked::Accepted { n: m, g: h } => check_sizes(first, second, n, m, g, h),
         },
+    }
+}
+
+// 10: is one of two workspaces short of its places?
+pub fn workspace_short(words: usize, bytes: usize) -> bool
+    ensures { λ r. ⌜ r ≡ (ltb words places || ltb bytes places) ⌝ }
+{
+    if words < PLACES {
+        return true;
+    }
+    bytes < PLACES
+}
+
+// All the checks on a call: those on the two records, then that on the workspaces.
+pub fn check_call(first: &[u8], second: &[u8], words: usize, bytes: usize) -> PairCheck
+    ensures number { λ r. ⌜ pairNumber r ≡ numberIn (pairFault (read (now (first .entry))) (read (now (second .entry))) (workspaceRows words bytes)) ⌝ }
+    ensures found { λ r. ⌜ PairRead r (now (first .entry)) (now (second .entry)) ⌝ }
+{
+    match check_pair(first, second) {
+        PairCheck::Refused(refusal) => PairCheck::Refused(refusal),
+        PairCheck::Good { n, g, h } => {
+            if workspace_short(words, bytes) {
+                return PairCheck::Refused(Refusal::WorkspaceShort);
+            }
+            PairCheck::Good { n, g, h }
+        }
     }
 }

@@ -3,19 +3,19 @@
 -- Assumes nothing.
 use mathlib.Core.Path.{_≡_, refl, sym, ap, _∙_}
 use mathlib.Core.Logic.{⊎-map}
-use Prim.Native.Nat.{ℕ, _+_, _≤_}
+use Prim.Native.Nat.{ℕ, _+_, _*_, _≤_}
 use native.Mathlib.Nat.{sub-zero}
 use native.Mathlib.Omega.{arith}
 use mathlib.Core.Bool.{Bool, true, false, _||_}
 use mathlib.Core.Option.{Option, none, some}
 use mathlib.Core.List.{List, [], _++_}
-use lib.ListN.{length, drop, replicate}
+use lib.ListN.{length, take, drop, replicate}
 use lib.Dec.{ltb}
 use borrow.Author.Tests.{ltb-false}
+use Rattle.record_format.specs.Format.{headSize, gateSize}
 use Rattle.record_format.specs.Gate.{Gate, inverseList}
 use Rattle.record_format.specs.Row.{Fault}
 use Rattle.record_format.specs.Reading.{accepted, read}
-use Rattle.record_format.specs.Writing.{gatePart}
 use Rattle.record_format.proofs.Rows.{none-holds}
 use Rattle.amplitude.specs.Circuit.{tally, isH, hGates}
 use Rattle.amplitude.proofs.Linear.{tally-append, hGates-inverse}
@@ -28,16 +28,16 @@ use Rattle.phase_sum_terms.specs.Workspace.{over, Stored}
 use Rattle.phase_sum_terms.specs.Unmerged.{gatesIn, appended, Buildable, Shows}
 use Rattle.phase_sum_terms.specs.declared.Sum.{Sum}
 use Rattle.phase_sum_terms.proofs.Storing.{over-padded, stored-behind}
-use Rattle.phase_sum_terms.proofs.Acceptance.{gates-of-part, buildable}
+use Rattle.phase_sum_terms.proofs.Acceptance.{buildable}
 use Rattle.comparison_meaning.specs.Reduction as reduction
 use Rattle.comparison_meaning.specs.Reduction.{pinned, reduceEnd}
 use Rattle.comparison_meaning.specs.Verdict as verdict
 use Rattle.comparison_meaning.specs.Verdict.{Result, equal, different, undecided, joined, judge, compare}
 use Rattle.comparison_meaning.specs.Demands.{Accepted, Demands, EqualIsRight, DifferentIsRight, ByTheSteps, InputsOnlyIfDifferent, CliffordIsDecided, CountsAddUp, StepsWithinHGates}
 use Rattle.comparison_meaning.proofs.Bytes.{demands-pair, room-fits-pair}
-use Rattle.comparison_types.specs.Call.{Said, says, refuses, numberOf, verdictOf, resultOf, saidOf, pairRows, pairFault, compareRead, unlessFault, comparison, leftBy}
+use Rattle.comparison_types.specs.Call.{Said, says, refuses, numberOf, verdictOf, resultOf, saidOf, pairRows, workspaceRows, pairFault, compareRead, unlessFault, comparison, leftBy}
 use Rattle.comparison_types.specs.Clauses.{ForResult, Sound, Stops, Inputs, Clifford, CountsUp}
-use Rattle.comparison_types.specs.Inner.{members, sumOf, sumBuilt, Sized, Kept, AcceptedOn, numberIn, pairNumber}
+use Rattle.comparison_types.specs.Inner.{members, sumOf, sumBuilt, Sized, Kept, AcceptedWith, numberIn, pairNumber, PairRead}
 use Rattle.comparison_types.specs.declared.Verdict.{Verdict}
 use Rattle.comparison_types.specs.declared.Verdict.the-variants.{Equal, Different, Undecided}
 use Rattle.comparison_types.specs.declared.Outcome.{Outcome}
@@ -48,6 +48,7 @@ use Rattle.comparison_types.specs.declared.State.{State}
 use Rattle.comparison_types.specs.declared.PairCheck.{PairCheck}
 use Rattle.comparison_types.specs.declared.PairCheck.the-variants.{Good}
 use Rattle.phase_sum_terms.proofs.Running.{terms-gates, shows-sum}
+use Rattle.comparison_types.proofs.PairLaws.{part-of, gates-of}
 
 -- the sum that was built of two lists
 module _
@@ -133,71 +134,75 @@ number-said k (some f) said e = cc
 -- where the checks answer a refusal, that is said of the pair
 pub refusal-said :
     (s t : List ℕ) (w c : ℕ) {k : Refusal} {r : PairCheck} →
-    pairNumber r ≡ numberIn (pairFault (read s) (read t) w c) →
+    pairNumber r ≡ numberIn (pairFault (read s) (read t) (workspaceRows w c)) →
     r ≡ PairCheck.Refused k →
     refuses (numberOf k) ≡ comparison s t w c
 refusal-said s t w c {k} number refused =
-    let fault = pairFault (read s) (read t) w c in
+    let fault = pairFault (read s) (read t) (workspaceRows w c) in
     number-said (numberOf k) fault (compareRead (read s) (read t)) (sym (ap pairNumber refused) ∙ number)
 
--- a pair that the checks let pass: two accepted records on n qubits with at most 64 variables, and workspaces with all their places
-pub record Passed (s t ss cs : List ℕ) (n : ℕ) : Type 0 where
-  pub gs : List Gate
-  pub hs : List Gate
-  pub pair : Accepted s t n gs hs
-  pub variables : n + (hGates gs + hGates hs) ≤ mostVariables
+-- a pair that the checks let pass: two accepted lists on n qubits, of g and h gates, with at most 64 variables, and workspaces with all
+-- their places
+pub record Passed (s t ss cs : List ℕ) (n g h : ℕ) : Type 0 where
+  pub first : AcceptedWith n g s
+  pub second : AcceptedWith n h t
+  pub variables : n + (hGates (first .gates) + hGates (second .gates)) ≤ mostVariables
   pub sets : places ≤ length ss
   pub coeffs : places ≤ length cs
-  pub said : comparison s t (length ss) (length cs) ≡ says (compare 0 n gs hs)
+  pub said : comparison s t (length ss) (length cs) ≡ says (compare 0 n (first .gates) (second .gates))
 
 -- two conditions of which neither holds
 neither : (a b : Bool) → (a || b) ≡ false → (a ≡ false) × (b ≡ false)
 neither true b e = let z : _≡_ {A = ℕ} 0 1 = cc in absurd (omega arith)
 neither false b e = (refl, e)
 
--- where the checks answer n, the pair passes
+-- where the checks answer n, g and h, the pair passes
 pub pair-passes :
-    (s t ss cs : List ℕ) {n : ℕ} {r : PairCheck} →
-    pairNumber r ≡ numberIn (pairFault (read s) (read t) (length ss) (length cs)) →
-    ((k : ℕ) → r ≡ Good k → AcceptedOn k s × AcceptedOn k t) →
-    r ≡ Good n →
-    Passed s t ss cs n
+    (s t ss cs : List ℕ) {n g h : ℕ} {r : PairCheck} →
+    pairNumber r ≡ numberIn (pairFault (read s) (read t) (workspaceRows (length ss) (length cs))) →
+    PairRead r s t →
+    r ≡ Good n g h →
+    Passed s t ss cs n g h
 unfolding pairFault compareRead
-pair-passes s t ss cs {n} number qubits good =
-    let ((gs, reads), (hs, reads′)) = qubits n good in
-    let fault = no-fault (pairFault (read s) (read t) (length ss) (length cs)) (sym (ap pairNumber good) ∙ number) in
-    let rows = none-holds (pairRows n n gs hs (length ss) (length cs)) .0 (rw (reads, reads′) at fault) in
+pair-passes s t ss cs {n} {g} {h} {r} number lists good =
+    let (list, other) : AcceptedWith n g s × AcceptedWith n h t = rw good at lists in
+    let gs = list .gates in
+    let hs = other .gates in
+    let below = workspaceRows (length ss) (length cs) in
+    let fault = no-fault (pairFault (read s) (read t) below) (sym (ap pairNumber good) ∙ number) in
+    let rows = none-holds (pairRows n n gs hs ++ below) .0 (rw (list .reads, other .reads) at fault) in
     let sizes = neither (ltb (length ss) places) (ltb (length cs) places) (rows .1 .1 .0) in
     record {
-      gs = gs;
-      hs = hs;
-      pair = record { reads-first = reads; reads-second = reads′ };
+      first = list;
+      second = other;
       variables = ltb-false mostVariables (n + (hGates gs + hGates hs)) (rows .1 .0);
       sets = ltb-false (length ss) places (sizes .0);
       coeffs = ltb-false (length cs) places (sizes .1);
-      said = rw (fault, reads, reads′);
+      said = rw (fault, list .reads, other .reads);
     }
 
--- the gate parts of a pair that passes
+-- the gate bytes of a pair that passes
 module _
-    {s t ss cs : List ℕ} {n : ℕ} (pass : Passed s t ss cs n)
-    {part part′ : List ℕ} (is : part ≡ gatePart s (read s)) (is′ : part′ ≡ gatePart t (read t))
+    {s t ss cs : List ℕ} {n g h : ℕ} (pass : Passed s t ss cs n g h)
+    {part part′ : List ℕ} (is : part ≡ take (gateSize * g) (drop headSize s)) (is′ : part′ ≡ take (gateSize * h) (drop headSize t))
   where
-    -- the first stands for the first list's gates
-    gates-first : gatesIn part ≡ pass .gs
-    gates-first = rw is (gates-of-part s n (pass .gs) (pass .pair .reads-first))
+    -- the first stand for the first list's gates
+    gates-first : gatesIn part ≡ pass .first .gates
+    gates-first = rw is (gates-of (pass .first))
 
     -- the second for the second's
-    gates-second : gatesIn part′ ≡ pass .hs
-    gates-second = rw is′ (gates-of-part t n (pass .hs) (pass .pair .reads-second))
+    gates-second : gatesIn part′ ≡ pass .second .gates
+    gates-second = rw is′ (gates-of (pass .second))
 
     -- they can be built, and have room in the first places
     pub pass-fits : Buildable n part part′ ss cs × (room (gatesIn part) (gatesIn part′) ≤ places)
     pass-fits =
-        let pair = pass .pair in
-        let built = buildable s t n (pass .gs) (pass .hs) ss cs (pair .reads-first) (pair .reads-second) in (
-          rw (is, is′) (built (pass .variables) (pass .sets) (pass .coeffs)),
-          rw (gates-first, gates-second) (room-fits-pair s t n (pass .gs) (pass .hs) pair (pass .variables)),
+        let list = pass .first in
+        let other = pass .second in
+        let pair : Accepted s t n (list .gates) (other .gates) = record { reads-first = list .reads; reads-second = other .reads } in
+        let built = buildable s t n (list .gates) (other .gates) ss cs (list .reads) (other .reads) in (
+          rw (is, is′, part-of list, part-of other) (built (pass .variables) (pass .sets) (pass .coeffs)),
+          rw (gates-first, gates-second) (room-fits-pair s t n (list .gates) (other .gates) pair (pass .variables)),
         )
 
     -- comparing them gives what is said of the pair
@@ -214,7 +219,7 @@ module _ (s t : List ℕ) (w c : ℕ) (a : Answer) (said : saidOf a ≡ comparis
       resultOf o ≡ compare 0 n first second
   unfolding compareRead
   outcome-is n first second o pair is =
-      go (resultOf o) (compare 0 n first second) (pairFault (accepted n first) (accepted n second) w c)
+      go (resultOf o) (compare 0 n first second) (pairFault (accepted n first) (accepted n second) (workspaceRows w c))
       (rw (pair .reads-first, pair .reads-second) at (sym (ap saidOf is) ∙ said))
     where
       go : (x y : Result) (f : Option Fault) → says x ≡ unlessFault f (says y) → x ≡ y
@@ -229,11 +234,16 @@ module _ (s t : List ℕ) (w c : ℕ) (a : Answer) (said : saidOf a ≡ comparis
   holds P proof n first second o pair is =
       rw (outcome-is n first second o pair is) (proof n first second (demands-pair s t n first second pair))
 
+  -- equal and different are said only where that is right
+  pub sound-said : Sound s t a
+  sound-said =
+      holds (λ n first second r. EqualIsRight n first second r × DifferentIsRight n first second r)
+      (λ n first second d. (d .equal-is-right, d .different-is-right))
+
   -- all the clauses
   pub clauses-said : Sound s t a × (Stops s t a × (Inputs s t a × (Clifford s t a × CountsUp s t a)))
   clauses-said = (
-    holds (λ n first second r. EqualIsRight n first second r × DifferentIsRight n first second r)
-        (λ n first second d. (d .equal-is-right, d .different-is-right)),
+    sound-said,
     (
       holds (λ n first second r. ByTheSteps n first second r) (λ n first second d. d .by-the-steps),
       (

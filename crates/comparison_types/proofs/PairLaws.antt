@@ -1,98 +1,159 @@
--- What the checks on a pair rest on: what `check` answered says how a record reads, what is counted over a record's gate part is
--- counted over the gates that reading found, and which of the pair's rows is the first that holds.
+-- What the checks on a pair rest on: what `check` answered says how a record reads, the bytes behind an accepted record's head stand for
+-- its gates, and which of the pair's rows is the first that holds.
 -- Assumes nothing.
-use mathlib.Core.Path.{_≡_, refl}
-use Prim.Native.Nat.{ℕ, _+_, _<_, _≤_}
+use mathlib.Core.Path.{_≡_, refl, sym, ap, _∙_}
+use Prim.Native.Nat.{ℕ, _+_, _*_, _<_, _≤_}
 use native.Mathlib.Omega.{arith}
 use mathlib.Core.Bool.{Bool, true, false, cond, _||_}
-use mathlib.Core.Option.{none, some}
-use mathlib.Core.List.{List, [], _∷_}
-use lib.ListN.{length}
+use mathlib.Core.Option.{Option, none, some}
+use mathlib.Core.List.{List, [], _∷_, _++_}
+use lib.ListN.{length, take, drop}
 use lib.Dec.{ltb, eqb}
 use borrow.Author.Tests.{lt-ltb, le-ltb, eq-eqb, ne-eqb}
+use Rattle.record_format.specs.Format.{headSize, gateSize}
 use Rattle.record_format.specs.Gate.{Gate}
-use Rattle.record_format.specs.Row.{Fault, first}
-use Rattle.record_format.specs.Reading.{Reading, accepted, refused, read}
-use Rattle.record_format.specs.Answer.{refuses, numberOf, checkedAnswer}
+use Rattle.record_format.specs.Row.{Fault, Row, first}
+use Rattle.record_format.specs.Reading.{Reading, accepted, refused, read, size}
+use Rattle.record_format.specs.Answer as list
+use Rattle.record_format.specs.Answer.{gives, refuses, checkedAnswer}
 use Rattle.record_format.specs.Writing.{checkAnswer, gatePart}
-use Rattle.record_format.specs.declared.Refusal as list
+use Rattle.record_format.specs.declared.Refusal as list-refusal
 use Rattle.record_format.specs.declared.Checked.{Checked}
 use Rattle.record_format.specs.declared.Checked.the-variants.{Accepted}
 use Rattle.record_format.proofs.Theorems.{accepted-is-sound}
+use Rattle.record_format.proofs.Reading.{Accepts, accepts}
+use Rattle.record_format.proofs.Rows.{first-none, first-some}
 use Rattle.amplitude.specs.Circuit.{tally, hGates}
 use Rattle.phase_sum_meaning.specs.Room.{mostVariables, places}
 use Rattle.phase_sum_terms.specs.Unmerged.{gatesIn}
-use Rattle.phase_sum_terms.specs.declared.counting.Weight.the-variants as weight
-use Rattle.phase_sum_terms.proofs.Acceptance.{gates-of-part, accepted-by-check}
-use Rattle.phase_sum_terms.proofs.Tallying.{light}
-use Rattle.comparison_types.specs.Call.{pairFault}
-use Rattle.comparison_types.specs.Inner.{AcceptedOn, numberIn}
+use Rattle.phase_sum_terms.proofs.Acceptance.{gates-of-part}
+use Rattle.phase_sum_terms.proofs.Tallying.{one-h}
+use Rattle.comparison_types.specs.Call.{numberOf, pairRows, workspaceRows, pairFault}
+use Rattle.comparison_types.specs.Inner.{AcceptedWith, numberIn, pairNumber}
 use Rattle.comparison_types.specs.declared.Refusal.{Refusal}
 use Rattle.comparison_types.specs.declared.PairCheck.{PairCheck}
 use Rattle.comparison_types.specs.declared.PairCheck.the-variants.{Good}
 
--- a check that answered n and g accepts the record, on n qubits
-pub accepted-on :
-    (s : List ℕ) (found : Checked) (n g : ℕ) → checkedAnswer found ≡ checkAnswer (read s) → found ≡ Accepted n g → AcceptedOn n s
-accepted-on s found n g answers is = accepted-by-check s n g (rw is at answers)
+-- a check that answered n and g accepts the record, with these
+pub accepted-with :
+    (s : List ℕ) (found : Checked) (n g : ℕ) → checkedAnswer found ≡ checkAnswer (read s) → found ≡ Accepted n g → AcceptedWith n g s
+accepted-with s found n g answers is = go (read s) refl (rw is at answers)
+  where
+    go : (q : Reading) → read s ≡ q → gives (n ∷ g ∷ []) ≡ checkAnswer q → AcceptedWith n g s
+    go (accepted m gs) e h = record { gates = gs; reads = cc; counted = cc }
+    go (refused f) e h = let z : _≡_ {A = ℕ} 0 1 = cc in absurd (omega arith)
+
+-- an accepted list of g gates
+module _ {n g : ℕ} {s : List ℕ} (list : AcceptedWith n g s) where
+  -- its head is good, and n and g are its own
+  pub head-of : Accepts s n g
+  head-of = accepts s (Accepted n g) n g (rw (list .reads, list .counted)) refl
+
+  -- the bytes have the whole record
+  pub whole-of : size g ≤ length s
+  whole-of = omega (arith, head-of .head .whole, head-of .g-is)
+
+  -- the 3g bytes behind the head are its gate part
+  pub part-of : take (gateSize * g) (drop headSize s) ≡ gatePart s (read s)
+  part-of = rw (list .reads, head-of .g-is)
+
+  -- they stand for its gates
+  pub gates-of : gatesIn (take (gateSize * g) (drop headSize s)) ≡ list .gates
+  gates-of = rw part-of (gates-of-part s n (list .gates) (list .reads))
 
 -- a check that answered a refusal refuses the record, by a fault of that number
 pub refused-by :
-    (s : List ℕ) (found : Checked) (r : list.Refusal) → checkedAnswer found ≡ checkAnswer (read s) → found ≡ Checked.Refused r
-    → (f : Fault) × (read s ≡ refused f) × (numberOf r ≡ f .number)
+    (s : List ℕ) (found : Checked) (r : list-refusal.Refusal) → checkedAnswer found ≡ checkAnswer (read s) → found ≡ Checked.Refused r
+    → (f : Fault) × (read s ≡ refused f) × (list.numberOf r ≡ f .number)
 refused-by s found r answers is = go (read s) refl (rw is at answers)
   where
-    go : (q : Reading) → read s ≡ q → refuses (numberOf r) ≡ checkAnswer q
-        → (f : Fault) × (read s ≡ refused f) × (numberOf r ≡ f .number)
+    go : (q : Reading) → read s ≡ q → refuses (list.numberOf r) ≡ checkAnswer q
+        → (f : Fault) × (read s ≡ refused f) × (list.numberOf r ≡ f .number)
     go (accepted m gs) e h = let z : _≡_ {A = ℕ} 0 1 = cc in absurd (omega arith)
     go (refused f) e h = (f, e, cc)
 
--- a refusal is not a number of qubits
-pub not-good : {X : Type 0} (r : Refusal) (k : ℕ) → PairCheck.Refused r ≡ Good k → X
-not-good r k h = let z : _≡_ {A = ℕ} 0 1 = cc in absurd (omega arith)
-
 -- a fault of the first list is the pair's
-pub first-refused : (s t : List ℕ) (w c k : ℕ) (f : Fault) → read s ≡ refused f → k ≡ f .number
-    → some k ≡ numberIn (pairFault (read s) (read t) w c)
+pub first-refused : (s t : List ℕ) (below : List Row) (k : ℕ) (f : Fault) → read s ≡ refused f → k ≡ f .number
+    → some k ≡ numberIn (pairFault (read s) (read t) below)
 unfolding pairFault
-first-refused s t w c k f e same = rw (e, same)
+first-refused s t below k f e same = rw (e, same)
 
 -- behind an accepted first list a fault of the second is the pair's
-pub second-refused : (s t : List ℕ) (w c n k : ℕ) (f : Fault) → AcceptedOn n s → read t ≡ refused f → k ≡ f .number
-    → some k ≡ numberIn (pairFault (read s) (read t) w c)
+pub second-refused : (s t : List ℕ) (below : List Row) (n g k : ℕ) (f : Fault) → AcceptedWith n g s → read t ≡ refused f → k ≡ f .number
+    → some k ≡ numberIn (pairFault (read s) (read t) below)
 unfolding pairFault
-second-refused s t w c n k f (gs, e) d same = rw (e, d, same)
-
--- the gates of a part that is an accepted record's gate part are those that reading found
-pub part-is : (s part : List ℕ) (n : ℕ) (gs : List Gate) → read s ≡ accepted n gs → part ≡ gatePart s (read s) → gatesIn part ≡ gs
-part-is s part n gs e same = rw same (gates-of-part s n gs e)
+second-refused s t below n g k f list d same = rw (list .reads, d, same)
 
 -- a list has at most as many H gates as gates
 h-gates-few : (gs : List Gate) → hGates gs ≤ length gs
 unfolding tally
 h-gates-few [] = omega arith
-h-gates-few (g ∷ gs) = omega (arith, light weight.H g, h-gates-few gs)
+h-gates-few (g ∷ gs) = omega (arith, one-h g, h-gates-few gs)
 
--- an accepted record has at most 16 qubits and 512 H gates
-pub small : (s : List ℕ) (n : ℕ) (gs : List Gate) → read s ≡ accepted n gs → (n ≤ 16) × (hGates gs ≤ 512)
-small s n gs e =
-    let sound = accepted-is-sound s n gs e in
-    (sound .few-qubits, omega (arith, h-gates-few gs, sound .few-gates))
+-- an accepted list has at most 16 qubits and 512 H gates
+pub small : {n g : ℕ} {s : List ℕ} (list : AcceptedWith n g s) → (n ≤ 16) × (hGates (list .gates) ≤ 512)
+small {n} {g} {s} list =
+    let sound = accepted-is-sound s n (list .gates) (list .reads) in
+    (sound .few-qubits, omega (arith, h-gates-few (list .gates), sound .few-gates))
 
-module _ (s t : List ℕ) (n m w c : ℕ) (gs hs : List Gate) (e : read s ≡ accepted n gs) (f : read t ≡ accepted m hs) where
-  -- two accepted records on other numbers of qubits
-  pub differ : (n ≡ m → ⊥) → some 8 ≡ numberIn (pairFault (read s) (read t) w c)
+-- two accepted lists
+module _ {n m g h : ℕ} {s t : List ℕ} (below : List Row) (list : AcceptedWith n g s) (other : AcceptedWith m h t) where
+  -- on other numbers of qubits
+  pub differ : (n ≡ m → ⊥) → some 8 ≡ numberIn (pairFault (read s) (read t) below)
   unfolding pairFault first
-  differ other = rw (e, f, ne-eqb n m other)
+  differ apart = rw (list .reads, other .reads, ne-eqb n m apart)
 
   -- on as many, with too many variables
-  pub too-many : n ≡ m → mostVariables < n + (hGates gs + hGates hs) → some 9 ≡ numberIn (pairFault (read s) (read t) w c)
+  pub too-many : n ≡ m → mostVariables < n + (hGates (list .gates) + hGates (other .gates))
+      → some 9 ≡ numberIn (pairFault (read s) (read t) below)
   unfolding pairFault first
-  too-many same many = rw (e, f, eq-eqb n m same, lt-ltb mostVariables (n + (hGates gs + hGates hs)) many)
+  too-many same many =
+      rw (list .reads, other .reads, eq-eqb n m same, lt-ltb mostVariables (n + (hGates (list .gates) + hGates (other .gates))) many)
 
-  -- with few enough, the places decide
-  pub places-decide : n ≡ m → n + (hGates gs + hGates hs) ≤ mostVariables → (b : Bool) → (ltb w places || ltb c places) ≡ b
-      → cond b (some 10) none ≡ numberIn (pairFault (read s) (read t) w c)
+  -- with few enough, the rows below decide
+  pub below-decide : n ≡ m → n + (hGates (list .gates) + hGates (other .gates)) ≤ mostVariables
+      → pairFault (read s) (read t) below ≡ first below
   unfolding pairFault first
-  places-decide same few true short = rw (e, f, eq-eqb n m same, le-ltb mostVariables (n + (hGates gs + hGates hs)) few, short)
-  places-decide same few false short = rw (e, f, eq-eqb n m same, le-ltb mostVariables (n + (hGates gs + hGates hs)) few, short)
+  below-decide same few =
+      rw (list .reads, other .reads, eq-eqb n m same, le-ltb mostVariables (n + (hGates (list .gates) + hGates (other .gates))) few)
+
+-- what the checks on two records found, with more rows below
+module _ (below : List Row) where
+  -- a fault stays
+  pub still-refused : (r q : Reading) (k : ℕ) → some k ≡ numberIn (pairFault r q []) → some k ≡ numberIn (pairFault r q below)
+  unfolding pairFault
+  still-refused (refused f) q k e = e
+  still-refused (accepted n gs) (refused f) k e = e
+  still-refused (accepted n gs) (accepted m hs) k e = go (first (pairRows n m gs hs)) refl e
+    where
+      go : (o : Option Fault) → first (pairRows n m gs hs) ≡ o → some k ≡ numberIn o → some k ≡ numberIn (first (pairRows n m gs hs ++ below))
+      go none is e = let z : _≡_ {A = ℕ} 0 1 = cc in absurd (omega arith)
+      go (some f) is e = rw (first-some (pairRows n m gs hs) below f is) e
+
+  -- without one the rows below decide
+  pub rest-decides : (r q : Reading) → none ≡ numberIn (pairFault r q []) → pairFault r q below ≡ first below
+  unfolding pairFault
+  rest-decides (refused f) q e = let z : _≡_ {A = ℕ} 0 1 = cc in absurd (omega arith)
+  rest-decides (accepted n gs) (refused f) e = let z : _≡_ {A = ℕ} 0 1 = cc in absurd (omega arith)
+  rest-decides (accepted n gs) (accepted m hs) e = go (first (pairRows n m gs hs)) refl e
+    where
+      go : (o : Option Fault) → first (pairRows n m gs hs) ≡ o → none ≡ numberIn o → first (pairRows n m gs hs ++ below) ≡ first below
+      go none is e = first-none (pairRows n m gs hs) below is
+      go (some f) is e = let z : _≡_ {A = ℕ} 0 1 = cc in absurd (omega arith)
+
+-- the checks' answer with the workspaces' row below: that of the pair, or 10
+module _ (s t : List ℕ) (w c : ℕ) (r : PairCheck) (found : pairNumber r ≡ numberIn (pairFault (read s) (read t) [])) where
+  -- a pair that was refused is refused by the same number
+  pub call-refused : {k : Refusal} → r ≡ PairCheck.Refused k
+      → some (numberOf k) ≡ numberIn (pairFault (read s) (read t) (workspaceRows w c))
+  call-refused {k} is = still-refused (workspaceRows w c) (read s) (read t) (numberOf k) (sym (ap pairNumber is) ∙ found)
+
+  -- a pair that passed is refused by 10 where a workspace is short
+  pub call-decides : {n g h : ℕ} → r ≡ Good n g h → (b : Bool) → b ≡ (ltb w places || ltb c places)
+      → cond b (some 10) none ≡ numberIn (pairFault (read s) (read t) (workspaceRows w c))
+  unfolding first
+  call-decides is b short = rw (rest-decides (workspaceRows w c) (read s) (read t) (sym (ap pairNumber is) ∙ found), ← short) (go b)
+    where
+      go : (b : Bool) → cond b (some 10) none ≡ numberIn (cond b (some (record { number = 10; gate = none })) none)
+      go true = refl
+      go false = refl

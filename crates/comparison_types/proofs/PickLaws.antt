@@ -2,52 +2,62 @@
 -- that the part it hands back is right.
 -- Assumes nothing.
 use mathlib.Core.Path.{_≡_, refl, sym, ap, _∙_}
-use Prim.Native.Nat.{ℕ, _+_, _*_, _<_, _≤_}
+use Prim.Native.Nat.{ℕ, _+_, _*_, _/_, _<_, _≤_}
 use native.Mathlib.Omega.{arith}
 use mathlib.Core.Bool.{Bool, true, false, cond, _&&_, _||_, and-eq-true-iff}
 use mathlib.Core.List.{List, []}
-use lib.ListN.{length, getD, take, drop, length-take, length-drop}
+use lib.ListN.{length, getD, take, drop, length-take, length-map}
 use lib.Seq.{getD-take, take-take, take-add, drop-at}
 use lib.Dec.{ltb, eqb}
-use borrow.Author.Tests.{ltb-true, ltb-false, lt-ltb, le-ltb, eqb-true, eq-eqb, ne-eqb}
+use borrow.Author.Tests.{ltb-true, lt-ltb, le-ltb, eqb-true, eq-eqb, ne-eqb}
+use Rattle.record_format.specs.Format.{gateSize}
 use Rattle.record_format.specs.Gate.{Gate}
 use Rattle.record_format.specs.Row.{first}
 use Rattle.record_format.specs.Reading.{Reading, accepted, refused, read, count, size, body, recordRows}
-use Rattle.record_format.specs.Writing.{gatePart}
-use Rattle.record_format.specs.declared.Checked.the-variants as checked
-use Rattle.record_format.proofs.Reading.{Accepts, accepts}
+use Rattle.record_format.proofs.Encoding.{length-raws}
 use Rattle.amplitude.specs.Number.{√2^}
 use Rattle.amplitude.specs.Circuit.{hGates, tGates, column}
 use Rattle.amplitude.proofs.Linear.{ω^-zero}
+use Rattle.phase_sum_terms.specs.Unmerged.{gatesIn}
 use Rattle.comparison_meaning.specs.Demands.{Accepted, SomePower}
 use Rattle.comparison_meaning.specs.Verdict.{Result}
-use Rattle.comparison_types.specs.Call.{numberOf, Said, says, refuses, verdictOf, resultOf, saidOf, pairFault, compareRead, unlessFault, comparison, leftBy, better, Choice, theFirst, theSecond, nothing, isEqual, choice, picked, ownBytes, pickedPart, pickedAt}
+use Rattle.comparison_types.specs.Call.{numberOf, Said, says, refuses, verdictOf, resultOf, saidOf, workspaceRows, pairFault, compareRead, unlessFault, comparison, leftBy, better, Choice, theFirst, theSecond, nothing, isEqual, choice, picked, ownBytes, pickedPart, pickedAt}
 use Rattle.comparison_types.specs.Clauses.{Sound, PickIsRight, EmptyIfRefused}
+use Rattle.comparison_types.specs.Inner.{AcceptedWith, ComparedRead}
 use Rattle.comparison_types.specs.declared.Verdict.{Verdict}
 use Rattle.comparison_types.specs.declared.Verdict.the-variants.{Equal, Different, Undecided}
 use Rattle.comparison_types.specs.declared.Refusal.{Refusal}
+use Rattle.comparison_types.specs.declared.Outcome.{Outcome}
+use Rattle.comparison_types.specs.declared.Comparison.{Comparison}
+use Rattle.comparison_types.specs.declared.Comparison.the-variants.{Done}
 use Rattle.comparison_types.specs.declared.Answer.{Answer}
 use Rattle.comparison_types.specs.declared.Answer.the-variants.{Compared, Refused}
+use Rattle.comparison_types.proofs.PairLaws.{head-of}
+use Rattle.comparison_types.proofs.ClauseLaws.{sound-said}
+
+-- what was read of a pair that was compared
+pub lists-read :
+    (s t : List ℕ) {r : Comparison} {o : Outcome} {g h : ℕ}
+    → r ≡ Done o g h
+    → ComparedRead r s t
+    → (n : ℕ) × AcceptedWith n g s × AcceptedWith n h t
+lists-read s t is found = rw is at found
+
+-- the record at the start of an accepted list's bytes is its own
+pub own-of : {n g : ℕ} {s : List ℕ} → AcceptedWith n g s → take (size g) s ≡ ownBytes s
+own-of list = rw (head-of list .g-is)
 
 module _ (s : List ℕ) (n : ℕ) (gs : List Gate) (e : read s ≡ accepted n gs) where
-  -- an accepted record's head is good, and its g is the number of gates
-  head-of : Accepts s n (length gs)
-  head-of = accepts s (checked.Accepted n (length gs)) n (length gs) (rw e) refl
+  -- an accepted record's bytes have it whole
+  whole-in : size (count s) ≤ length s
+  whole-in =
+      let list : AcceptedWith n (length gs) s = record { gates = gs; reads = e; counted = refl } in
+      head-of list .head .whole
 
-  -- its gate part has three bytes for each gate
-  pub part-length : length (gatePart s (read s)) ≡ 3 * length gs
-  part-length = rw e (simp (length-take, length-drop) (omega (arith, head-of .head .whole, head-of .g-is)))
-
-  -- its own bytes are the head and the gate part, and the bytes have them all
-  pub own-size : (part : List ℕ) → part ≡ gatePart s (read s) → (5 + length part ≡ size (count s)) × (5 + length part ≤ length s)
-  own-size part same =
-      let long = ap length same ∙ part-length in
-      (omega (arith, long, head-of .g-is), omega (arith, long, head-of .g-is, head-of .head .whole))
-
-  -- they are some
+  -- its own bytes are some
   own-some : ownBytes s ≡ [] → ⊥
   own-some none-left =
-      let long : length (ownBytes s) ≡ size (count s) = simp length-take (omega (arith, head-of .head .whole)) in
+      let long : length (ownBytes s) ≡ size (count s) = simp length-take (omega (arith, whole-in)) in
       omega (arith, long, ap length none-left)
 
 -- bytes with the same head and gate bytes, with room for them, read as the same
@@ -77,7 +87,7 @@ take-behind k s long =
 -- the own bytes of an accepted record read back as the record
 own-reads : (s : List ℕ) (n : ℕ) (gs : List Gate) → read s ≡ accepted n gs → read (ownBytes s) ≡ accepted n gs
 own-reads s n gs e =
-    let whole = head-of s n gs e .head .whole in
+    let whole = whole-in s n gs e in
     let long : size (count s) ≤ length (ownBytes s) = simp length-take (omega arith) in
     same-reading s (ownBytes s)
     (λ i below. getD-take (size (count s)) s i 0 (omega arith))
@@ -101,15 +111,6 @@ module _ (gs hs : List Gate) where
       let other : tGates hs ≡ tGates gs → ⊥ = λ same. omega arith in
       rw (le-ltb (tGates hs) (tGates gs) (omega arith), ne-eqb (tGates hs) (tGates gs) other)
 
-  -- of two with as many, the one with fewer gates, or with fewer bytes, three a gate
-  pub better-shorter : tGates hs ≡ tGates gs → ltb (3 * length hs) (3 * length gs) ≡ better gs hs
-  better-shorter same =
-      rw (le-ltb (tGates hs) (tGates gs) (omega arith), eq-eqb (tGates hs) (tGates gs) same) (go (ltb (length hs) (length gs)) refl)
-    where
-      go : (b : Bool) → ltb (length hs) (length gs) ≡ b → ltb (3 * length hs) (3 * length gs) ≡ b
-      go true less = lt-ltb (3 * length hs) (3 * length gs) (omega (arith, ltb-true))
-      go false more = le-ltb (3 * length hs) (3 * length gs) (omega (arith, ltb-false))
-
   -- a better list has at most as many T gates
   better-few : better gs hs ≡ true → tGates hs ≤ tGates gs
   better-few = go (ltb (tGates hs) (tGates gs)) refl
@@ -120,6 +121,17 @@ module _ (gs hs : List Gate) where
       go false more h =
           let same = eqb-true (tGates hs) (tGates gs) (and-eq-true-iff _ _ .0 h .0) in
           omega arith
+
+-- of two with as many, the one with fewer gates, by their bytes, three a gate
+pub better-shorter :
+    (first second : List ℕ) → tGates (gatesIn second) ≡ tGates (gatesIn first)
+    → ltb (length second / gateSize) (length first / gateSize) ≡ better (gatesIn first) (gatesIn second)
+better-shorter first second same =
+    rw (
+      le-ltb (tGates (gatesIn second)) (tGates (gatesIn first)) (omega arith),
+      eq-eqb (tGates (gatesIn second)) (tGates (gatesIn first)) same,
+    )
+    (simp (length-map, length-raws))
 
 -- what is chosen of a pair that was compared
 choice-by :
@@ -140,12 +152,12 @@ is-equal Undecided h = let z : _≡_ {A = ℕ} 0 1 = cc in absurd (omega arith)
 
 -- two lists on other numbers of qubits are refused
 other-qubits : (n m w c : ℕ) (gs hs : List Gate) (a : Said) → eqb n m ≡ false
-    → unlessFault (pairFault (accepted n gs) (accepted m hs) w c) a ≡ refuses 8
+    → unlessFault (pairFault (accepted n gs) (accepted m hs) (workspaceRows w c)) a ≡ refuses 8
 unfolding pairFault first
 other-qubits n m w c gs hs a other = rw other
 
 -- two readings that were compared are accepted, on as many qubits
-passed : (p q : Reading) (w c : ℕ) (r : Result) → unlessFault (pairFault p q w c) (compareRead p q) ≡ says r
+passed : (p q : Reading) (w c : ℕ) (r : Result) → unlessFault (pairFault p q (workspaceRows w c)) (compareRead p q) ≡ says r
     → (n : ℕ) × (gs : List Gate) × (hs : List Gate) × (p ≡ accepted n gs) × (q ≡ accepted n hs)
 unfolding pairFault
 passed (refused f) q w c r h = let z : _≡_ {A = ℕ} 0 1 = cc in absurd (omega arith)
@@ -237,7 +249,6 @@ pub picks {ℓ} :
     {B : Type ℓ} (s t ss cs ss′ cs′ : List ℕ) (a : Answer) (x : Choice) (p q r : B) (part : List ℕ)
     → saidOf a ≡ comparison s t (length ss) (length cs)
     → (ss′ ≡ leftBy (saidOf a) ss) × (cs′ ≡ leftBy (saidOf a) cs)
-    → Sound s t a
     → picked s t (length ss) (length cs) ≡ x
     → part ≡ pickedPart x s t
     → r ≡ pickedAt x p q
@@ -245,8 +256,9 @@ pub picks {ℓ} :
     × ((r ≡ pickedAt (picked s t (length ss) (length cs)) p q)
     × (((ss′ ≡ leftBy (comparison s t (length ss) (length cs)) ss) × (cs′ ≡ leftBy (comparison s t (length ss) (length cs)) cs))
     × (PickIsRight s t (length ss) (length cs) part × EmptyIfRefused s t (length ss) (length cs) part)))
-picks s t ss cs ss′ cs′ a x p q r part said kept sound is content start =
-    let whole : part ≡ pickedPart (picked s t (length ss) (length cs)) s t = rw is content in (
+picks s t ss cs ss′ cs′ a x p q r part said kept is content start =
+    let whole : part ≡ pickedPart (picked s t (length ss) (length cs)) s t = rw is content in
+    let sound : Sound s t a = sound-said s t (length ss) (length cs) a said in (
       whole,
       (
         rw is start,

@@ -64,19 +64,24 @@ abbrev pub saidOf : Answer → Said
 saidOf (Compared o) = says (resultOf o)
 saidOf (Refused r) = refuses (numberOf r)
 
--- the table's rows for a pair of accepted lists on n and m qubits and workspaces of w and c places
-abbrev pub pairRows : ℕ → ℕ → List Gate → List Gate → ℕ → ℕ → List Row
-pairRows n m gs hs w c =
+-- the table's rows for a pair of accepted lists on n and m qubits
+abbrev pub pairRows : ℕ → ℕ → List Gate → List Gate → List Row
+pairRows n m gs hs =
     row 8 (not (eqb n m))
     ∷ row 9 (ltb mostVariables (n + (hGates gs + hGates hs)))
-    ∷ row 10 (ltb w places || ltb c places)
     ∷ []
 
--- the first list is read, then the second, then the pair's rows are tried from top to bottom
-unfoldable pub pairFault : Reading → Reading → ℕ → ℕ → Option Fault
-pairFault (refused f) r w c = some f
-pairFault (accepted n gs) (refused f) w c = some f
-pairFault (accepted n gs) (accepted m hs) w c = first (pairRows n m gs hs w c)
+-- and below them its row for workspaces of w and c places
+abbrev pub workspaceRows : ℕ → ℕ → List Row
+workspaceRows w c =
+    row 10 (ltb w places || ltb c places)
+    ∷ []
+
+-- the first list is read, then the second, then the pair's rows and those below them are tried from top to bottom
+unfoldable pub pairFault : Reading → Reading → List Row → Option Fault
+pairFault (refused f) r below = some f
+pairFault (accepted n gs) (refused f) below = some f
+pairFault (accepted n gs) (accepted m hs) below = first (pairRows n m gs hs ++ below)
 
 -- the comparison of two readings that passed all checks
 unfoldable pub compareRead : Reading → Reading → Said
@@ -91,7 +96,7 @@ unlessFault (some f) s = refuses (f .number)
 
 -- what comparing two records says
 abbrev pub comparison : List ℕ → List ℕ → ℕ → ℕ → Said
-comparison s t w c = unlessFault (pairFault (read s) (read t) w c) (compareRead (read s) (read t))
+comparison s t w c = unlessFault (pairFault (read s) (read t) (workspaceRows w c)) (compareRead (read s) (read t))
 
 -- a lent workspace afterwards: unchanged where the call is refused, else zeros in the first 3,136 places and the others unchanged
 abbrev pub leftBy : Said → List ℕ → List ℕ

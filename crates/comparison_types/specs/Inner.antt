@@ -19,11 +19,15 @@ use Rattle.phase_sum_terms.specs.Workspace as built
 use Rattle.comparison_meaning.specs.Reduction as reduction
 use Rattle.comparison_types.specs.Call.{numberOf}
 use Rattle.phase_sum_terms.specs.declared.Sum.{Sum}
+use Rattle.comparison_types.specs.declared.Answer.{Answer}
+use Rattle.comparison_types.specs.declared.Answer.the-variants.{Compared, Refused}
 use Rattle.comparison_types.specs.declared.Counts.{Counts}
 use Rattle.comparison_types.specs.declared.State.{State}
 use Rattle.comparison_types.specs.declared.End.{End}
 use Rattle.comparison_types.specs.declared.PairCheck.{PairCheck}
 use Rattle.comparison_types.specs.declared.PairCheck.the-variants.{Good}
+use Rattle.comparison_types.specs.declared.Comparison.{Comparison}
+use Rattle.comparison_types.specs.declared.Comparison.the-variants.{Done}
 use Rattle.comparison_types.specs.declared.Found.{Found}
 use Rattle.comparison_types.specs.declared.Found.the-variants.{Variable, Nothing}
 
@@ -115,9 +119,11 @@ unfoldable pub inputOf : ℕ → Option ℕ
 inputOf zero = none
 inputOf (suc x) = some (suc x)
 
--- a list is accepted, on n qubits
-abbrev pub AcceptedOn : ℕ → List ℕ → Type 0
-AcceptedOn n s = (gs : List Gate) × (read s ≡ accepted n gs)
+-- a list is accepted, on n qubits and with g gates
+pub record AcceptedWith (n g : ℕ) (s : List ℕ) : Type 0 where
+  pub gates : List Gate
+  pub reads : read s ≡ accepted n gates
+  pub counted : g ≡ length gates
 
 -- the number of a fault, if there is one
 abbrev pub numberIn : Option Fault → Option ℕ
@@ -126,8 +132,23 @@ numberIn (some f) = some (f .number)
 
 -- the number that the checks on a pair found, if any did
 abbrev pub pairNumber : PairCheck → Option ℕ
-pairNumber (Good n) = none
+pairNumber (Good n g h) = none
 pairNumber (PairCheck.Refused r) = some (numberOf r)
+
+-- a pair that passed was read: both lists are accepted, on n qubits, the first with g gates and the second with h
+abbrev pub PairRead : PairCheck → List ℕ → List ℕ → Type 0
+PairRead (Good n g h) s t = AcceptedWith n g s × AcceptedWith n h t
+PairRead (PairCheck.Refused r) s t = Unit {0}
+
+-- the answer that a comparison gives
+abbrev pub answerOf : Comparison → Answer
+answerOf (Done o g h) = Compared o
+answerOf (Comparison.Refused r) = Refused r
+
+-- a pair that was compared was read
+abbrev pub ComparedRead : Comparison → List ℕ → List ℕ → Type 0
+ComparedRead (Done o g h) s t = (n : ℕ) × AcceptedWith n g s × AcceptedWith n h t
+ComparedRead (Comparison.Refused r) s t = Unit {0}
 
 -- the path sum that a built sum and its workspaces stand for
 abbrev pub sumBuilt : Sum → List ℕ → List ℕ → PathSum

@@ -120,8 +120,18 @@ pub enum Found {
     Nothing,
 }
 
-// What the checks on a pair find: its qubits, or why it is turned down.
+// What the checks on a pair find: the qubits of both lists, the gates of the first and those of the second; or why it is turned down.
 pub enum PairCheck {
-    Good(usize),
+    Good { n: usize, g: usize, h: usize },
+    Refused(Refusal),
+}
+
+// What comparing a pair gives: the outcome, the gates of the first list and those of the second; or why it is turned down.
+pub enum Comparison {
+    Done {
+        outcome: Outcome,
+        g: usize,
+        h: usize,
+    },
     Refused(Refusal),
 }

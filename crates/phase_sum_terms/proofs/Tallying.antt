@@ -88,6 +88,10 @@ light weight.H (two v a b) = omega (arith, two-count v a b .0)
 light weight.T (one u q) = omega (arith, kind-counts u q .1, digit-below (tKind (oneQubitKind u)))
 light weight.T (two v a b) = omega (arith, two-count v a b .1)
 
+-- so a gate is at most one H gate
+pub one-h : (g : Gate) → isH g ≤ 1
+one-h g = light weight.H g
+
 -- the gates in front of byte i are counted, and sum is their weight; as no gate weighs more than its three bytes, it is at most i
 pub record Counted (weight : Gate → ℕ) (gates : List ℕ) (sum i : ℕ) : Type 0 where
   pub inside : i ≤ length gates

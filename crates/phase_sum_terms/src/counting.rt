@@ -8,7 +8,7 @@ ghost use Rattle.phase_sum_terms.specs.Inner.{weightOf};
 use record_format::gate;
 
 // What a tally counts: H gates, or T gates and their inverses.
-pub enum Weight {
+enum Weight {
     H,
     T,
 }

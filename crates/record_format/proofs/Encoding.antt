@@ -24,7 +24,7 @@ use Rattle.record_format.proofs.GateLaws.{inverse-cons, length-inverse}
 use Rattle.record_format.proofs.Rows.{none-holds, none-left, none-right, first-none}
 
 -- three bytes are a gate
-length-raws : (bs : List ℕ) → length (raws bs) ≡ length bs / gateSize
+pub length-raws : (bs : List ℕ) → length (raws bs) ≡ length bs / gateSize
 unfolding raws
 length-raws [] = refl
 length-raws (k ∷ []) = refl

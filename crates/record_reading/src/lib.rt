@@ -1,6 +1,6 @@
 // The record layer, reading: the check call, and the gate bytes as a part of the caller's slice.
 ghost use mathlib.Core.Path.{_≡_};
-ghost use Prim.Native.Nat.{_*_, _≤_};
+ghost use Prim.Native.Nat.{_+_, _*_, _≤_};
 ghost use lib.ListN.{length, take, drop};
 ghost use Rattle.record_format.specs.Format.{headSize, gateSize};
 ghost use Rattle.record_format.specs.Row.{first};
@@ -87,13 +87,22 @@ pub fn check(s: &[u8]) -> Checked
     }
 }
 
+// The bytes of g gates behind the head, as that part of s: of an accepted record of g gates, its gate bytes.
+pub fn gate_bytes(s: &[u8], g: usize) -> &[u8]
+    requires { ⌜ size g ≤ length (now s) ⌝ }
+    ensures content { λ r. ⌜ now r ≡ take (gateSize * g) (drop headSize (now (s .entry))) ⌝ }
+    ensures own { λ r. ⌜ r .ptr ≡ (s .entry .ptr .0, headSize + s .entry .ptr .1) ⌝ }
+{
+    &s[HEAD_SIZE..HEAD_SIZE + GATE_SIZE * g]
+}
+
 // The gate bytes of the record at the start of s, as that part of s; an empty part if the record is turned down.
 pub fn gates(s: &[u8]) -> &[u8]
     ensures content { λ r. ⌜ now r ≡ gatePart (now (s .entry)) (read (now (s .entry))) ⌝ }
     ensures own { λ r. ⌜ r .ptr ≡ gatesAt (read (now (s .entry))) (s .entry .ptr) ⌝ }
 {
     match check(s) {
-        Checked::Accepted { n: _, g } => &s[HEAD_SIZE..HEAD_SIZE + GATE_SIZE * g],
+        Checked::Accepted { n: _, g } => gate_bytes(s, g),
         Checked::Refused(_) => &s[..0],
     }
 }

@@ -1,20 +1,23 @@
--- `comparison::pair::check_pair` meets its contract: what `check` answered says how each list reads, and for two accepted lists
+-- `comparison_checking::check_pair` meets its contract: what `check` answered says how each list reads, and for two accepted lists
 -- `check_sizes` decides.
 -- Assumes nothing.
+use mathlib.Core.List.{[]}
 use borrow.Author.Needs.{needs}
-use Rattle.comparison_types.specs.Inner.{AcceptedOn}
-use Rattle.comparison_types.proofs.PairLaws.{accepted-on, refused-by, not-good, first-refused, second-refused}
+use Rattle.comparison_types.specs.Inner.{AcceptedWith}
+use Rattle.comparison_types.proofs.PairLaws.{accepted-with, refused-by, first-refused, second-refused}
 use Rattle.comparison_checking.proofs.check_pair.Statement.{statement}
 use Rattle.comparison_checking.proofs.check_pair.Tie as tie
 
 -- the first list is accepted
-first-accepted : (c : tie.After-n) → AcceptedOn (c .n .given .0 .0) (c .before .before .before .before .before .args .first .now)
-first-accepted c = accepted-on _ _ _ _ (c .before .before .check .ensures) (c .n .given .1)
+first-accepted : (c : tie.After-n)
+    → AcceptedWith (c .n .given .0 .0) (c .n .given .0 .1 .0) (c .before .before .before .before .before .args .first .now)
+first-accepted c = accepted-with _ _ _ _ (c .before .before .check .ensures) (c .n .given .1)
 
 -- and so is the second
 second-accepted : (c : tie.After-m)
-    → AcceptedOn (c .m .given .0 .0) (c .before .before .before .before .before .before .before .before .before .args .second .now)
-second-accepted c = accepted-on _ _ _ _ (c .before .before .check2 .ensures) (c .m .given .1)
+    → AcceptedWith (c .m .given .0 .0) (c .m .given .0 .1 .0)
+    (c .before .before .before .before .before .before .before .before .before .args .second .now)
+second-accepted c = accepted-with _ _ _ _ (c .before .before .check2 .ensures) (c .m .given .1)
 
 check-requires : tie.Need-check-requires
 check-requires c κs = search needs
@@ -42,27 +45,22 @@ returns c =
     let start = c .before .before .before .before .before .before in
     let (f, reads, same) =
     refused-by (start .args .first .now) _ _ (c .before .before .before .check .ensures) (c .before .refusal .given .1) in
-    (first-refused (start .args .first .now) (start .args .second .now) _ _ _ f reads same, λ n h. not-good _ n h)
+    (first-refused (start .args .first .now) (start .args .second .now) [] _ f reads same, tt)
 
 returns-2 : tie.Need-returns-2
 returns-2 c =
     let start = c .before .before .before .before .before .before .before .before .before .before in
     let (f, reads, same) =
     refused-by (start .args .second .now) _ _ (c .before .before .before .check2 .ensures) (c .before .refusal2 .given .1) in (
-      second-refused (start .args .first .now) (start .args .second .now) _ _ _ _ f
+      second-refused (start .args .first .now) (start .args .second .now) [] _ _ _ f
           (first-accepted (c .before .before .before .before .before))
           reads
           same,
-      λ n h. not-good _ n h,
+      tt,
     )
 
 returns-3 : tie.Need-returns-3
-returns-3 c = (
-  c .check-sizes .ensures .0,
-  λ n h.
-      let (is-n, is-m) = c .check-sizes .ensures .1 n h in
-      (rw is-n (first-accepted (c .before .before .before .before .before .before)), rw is-m (second-accepted (c .before .before))),
-)
+returns-3 c = c .check-sizes .ensures
 
 pub check-pair-spec : {M : Type 1} → statement M
 check-pair-spec =

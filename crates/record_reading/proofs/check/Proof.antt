@@ -1,4 +1,4 @@
--- `gate_list::reader::check` meets its contract: a refused head refuses the record, and behind an accepted one the check of the
+-- `record_reading::check` meets its contract: a refused head refuses the record, and behind an accepted one the check of the
 -- gates decides.
 -- Assumes nothing.
 use mathlib.Core.Path.{_≡_, sym, ap, _∙_}

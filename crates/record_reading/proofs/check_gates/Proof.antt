@@ -1,4 +1,4 @@
--- `gate_list::reader::check_gates` meets its contract. The loop's invariant: the first row of all gates that holds is the first
+-- `record_reading::check_gates` meets its contract. The loop's invariant: the first row of all gates that holds is the first
 -- of the gates from `i` on. The measure is how many gates are left.
 -- Assumes nothing.
 use mathlib.Core.Path.{_≡_, ap, sym, _∙_}

@@ -1,4 +1,4 @@
--- `gate_list::reader::check_head` meets its contract: at each `return` the tests that led there say which row of `headRows` is
+-- `record_reading::check_head` meets its contract: at each `return` the tests that led there say which row of `headRows` is
 -- the first that holds.
 -- Assumes nothing.
 use borrow.Author.Needs.{needs}

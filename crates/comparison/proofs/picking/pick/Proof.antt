@@ -1,62 +1,73 @@
--- `comparison::picking::pick` meets its contract: what `compare` answered says whether the pair was compared, and `takes_second` which
--- list is taken.
+-- `comparison::picking::pick` meets its contract: what `compare_read` answered says whether the pair was compared and how many gates each
+-- list has, and `takes_second` which list is taken.
 -- Assumes nothing.
 use mathlib.Core.Path.{_≡_, refl, sym, ap, _∙_}
 use Prim.Native.Nat.{ℕ}
 use mathlib.Core.Bool.{Bool, cond}
-use mathlib.Core.List.{List}
 use lib.ListN.{length}
 use borrow.Author.Needs.{needs}
-use Rattle.record_format.specs.Gate.{Gate}
-use Rattle.comparison_meaning.specs.Demands.{Accepted}
 use Rattle.comparison_types.specs.Call.{resultOf, saidOf, says, comparison, Choice, theFirst, theSecond, nothing, picked}
-use Rattle.comparison_types.proofs.PickLaws.{accepted-pair, picked-by, picked-refused, picks}
+use Rattle.comparison_types.specs.Inner.{AcceptedWith, answerOf}
+use Rattle.comparison_types.proofs.PairLaws.{whole-of, gates-of}
+use Rattle.comparison_types.proofs.PickLaws.{lists-read, own-of, picked-by, picked-refused, picks}
 use Rattle.comparison.proofs.picking.pick.Statement.{statement}
 use Rattle.comparison.proofs.picking.pick.Tie as tie
 
--- the function's entry, from where `compare` has answered
-abbrev start : tie.After-compare → tie.Start
+-- the function's entry, from where `compare_read` has answered
+abbrev start : tie.After-compare-read → tie.Start
 start c = c .before .before .before .before .before .before .before
 
+-- where it has answered, from where its outcome is known
+abbrev answered : tie.After-outcome → tie.After-compare-read
+answered c = c .before .before .before .before .before .before
+
+-- where the outcome is known, from where it is known which list is taken
+abbrev known : tie.After-takes-second → tie.After-outcome
+known c = c .before .before .before .before
+
 -- what is picked
-abbrev chosen : tie.After-compare → Choice
+abbrev chosen : tie.After-compare-read → Choice
 chosen c =
     let args = start c .args in
     picked (args .first .now) (args .second .now) (length (args .sets .now)) (length (args .coeffs .now))
 
 -- the pair was compared
-compared : (c : tie.After-outcome) → (let args = start (c .before .before .before .before .before .before) .args in
+compared : (c : tie.After-outcome) → (let args = start (answered c) .args in
     comparison (args .first .now) (args .second .now) (length (args .sets .now)) (length (args .coeffs .now))
     ≡ says (resultOf (c .outcome .given .0 .0)))
-compared c = sym (c .before .before .before .before .before .before .compare .ensures .0) ∙ ap saidOf (c .outcome .given .1)
+compared c = sym (answered c .compare-read .ensures .0) ∙ ap (λ r. saidOf (answerOf r)) (c .outcome .given .1)
 
--- so both lists are accepted, on as many qubits
-both-accepted : (c : tie.After-outcome) → (let args = start (c .before .before .before .before .before .before) .args in
-    (n : ℕ) × (gs : List Gate) × (hs : List Gate) × Accepted (args .first .now) (args .second .now) n gs hs)
-both-accepted c =
-    let args = start (c .before .before .before .before .before .before) .args in
-    accepted-pair (args .first .now) (args .second .now) (length (args .sets .now)) (length (args .coeffs .now)) _ (compared c)
+-- so both lists are accepted, on as many qubits, with the gates that were found
+both-read : (c : tie.After-outcome) → (let args = start (answered c) .args in
+    (n : ℕ) × AcceptedWith n (c .outcome .given .0 .1 .0) (args .first .now) × AcceptedWith n (c .outcome .given .0 .1 .1 .0) (args .second .now))
+both-read c =
+    let args = start (answered c) .args in
+    lists-read (args .first .now) (args .second .now) (c .outcome .given .1) (answered c .compare-read .ensures .1 .1)
 
 -- the answer of `takes_second` says which list is taken
-taken : (c : tie.After-takes-second)
-    → chosen (c .before .before .before .before .before .before .before .before)
-    ≡ cond (c .takes-second .result) theSecond theFirst
+taken : (c : tie.After-takes-second) → chosen (answered (known c)) ≡ cond (c .takes-second .result) theSecond theFirst
 taken c =
-    let args = start (c .before .before .before .before .before .before .before .before) .args in
-    let (n, gs, hs, pair) = both-accepted (c .before .before) in
-    picked-by (args .first .now) (args .second .now) _ _ n gs hs _ _ pair (compared (c .before .before))
-    (c .takes-second .ensures n n gs hs (pair .reads-first) (pair .reads-second))
+    let args = start (answered (known c)) .args in
+    let (n, list, other) = both-read (known c) in
+    picked-by (args .first .now) (args .second .now) (length (args .sets .now)) (length (args .coeffs .now)) n (list .gates) (other .gates) _ _
+    (record { reads-first = list .reads; reads-second = other .reads })
+    (compared (known c))
+    (rw (c .before .before .gate-bytes .ensures .0, c .before .gate-bytes2 .ensures .0, gates-of list, gates-of other)
+    at (c .takes-second .ensures))
 
 -- of a pair that was refused nothing is taken
 refused : (c : tie.After-enum-told) → chosen (c .before .before .before .before .before .before) ≡ nothing
 refused c =
-    let args = start (c .before .before .before .before .before .before) .args in
-    picked-refused (args .first .now) (args .second .now) _ _ _ _
-    (c .before .before .before .before .before .before .compare .ensures .0)
-    (c .enum-told .given .1)
+    let at-read = c .before .before .before .before .before .before in
+    let args = start at-read .args in
+    picked-refused (args .first .now) (args .second .now) (length (args .sets .now)) (length (args .coeffs .now))
+    (answerOf (at-read .compare-read .result))
+    _
+    (at-read .compare-read .ensures .0)
+    (ap answerOf (c .enum-told .given .1))
 
-compare-requires : tie.Need-compare-requires
-compare-requires c κs = search needs
+compare-read-requires : tie.Need-compare-read-requires
+compare-read-requires c κs = search needs
 
 enum-told : tie.Need-enum-told
 enum-told c = search needs
@@ -67,13 +78,17 @@ slice-aggregate-result c = search needs
 enum-known-outcome : tie.Need-enum-known-outcome
 enum-known-outcome c = search needs
 
+gate-bytes-requires : tie.Need-gate-bytes-requires
+gate-bytes-requires c κs = whole-of (both-read (c .before) .1)
+
+gate-bytes-requires-2 : tie.Need-gate-bytes-requires-2
+gate-bytes-requires-2 c κs = whole-of (both-read (c .before .before) .2)
+
 takes-second-requires : tie.Need-takes-second-requires
 takes-second-requires c κs = search needs
 
 whole-requires : tie.Need-whole-requires
-whole-requires c κs =
-    let (n, gs, hs, pair) = both-accepted (c .before .before .before) in
-    (n, (hs, pair .reads-second))
+whole-requires c κs = whole-of (both-read (known (c .before)) .2)
 
 same-length : tie.Need-same-length
 same-length c = search needs
@@ -83,18 +98,17 @@ same-length-2 c = search needs
 
 returns : tie.Need-returns
 returns c =
-    let args = start (c .before .before .before .before .before .before .before .before .before .before) .args in
-    let answer = c .before .before .before .before .before .before .before .before .before .before .compare in
-    picks _ _ (args .sets .now) (args .coeffs .now) _ _ _ theSecond _ _ _ _ (answer .ensures .0) (answer .ensures .1 .0)
-    (answer .ensures .1 .1 .0)
-    (taken (c .before .before) ∙ ap (λ (b : Bool). cond b theSecond theFirst) (c .before .if1 .taken))
-    (c .whole .ensures .0)
+    let at-taken = c .before .before in
+    let at-read = answered (known at-taken) in
+    let args = start at-read .args in
+    let read = at-read .compare-read in
+    picks _ _ (args .sets .now) (args .coeffs .now) _ _ (answerOf (read .result)) theSecond _ _ _ _ (read .ensures .0) (read .ensures .1 .0)
+    (taken at-taken ∙ ap (λ (b : Bool). cond b theSecond theFirst) (c .before .if1 .taken))
+    (c .whole .ensures .0 ∙ own-of (both-read (known at-taken) .2))
     (c .whole .ensures .1)
 
 whole-requires-2 : tie.Need-whole-requires-2
-whole-requires-2 c κs =
-    let (n, gs, hs, pair) = both-accepted (c .before .before .before) in
-    (n, (gs, pair .reads-first))
+whole-requires-2 c κs = whole-of (both-read (known (c .before)) .1)
 
 same-length-3 : tie.Need-same-length-3
 same-length-3 c = search needs
@@ -104,12 +118,12 @@ same-length-4 c = search needs
 
 returns-2 : tie.Need-returns-2
 returns-2 c =
-    let args = start (c .before .before .before .before .before .before .before) .args in
-    let answer = c .before .before .before .before .before .before .before .compare in
-    picks (args .first .now) (args .second .now) (args .sets .now) (args .coeffs .now) _ _ _ nothing _ _ _ _
-    (answer .ensures .0)
-    (answer .ensures .1 .0)
-    (answer .ensures .1 .1 .0)
+    let at-read = c .before .before .before .before .before .before .before in
+    let args = start at-read .args in
+    let read = at-read .compare-read in
+    picks (args .first .now) (args .second .now) (args .sets .now) (args .coeffs .now) _ _ (answerOf (read .result)) nothing _ _ _ _
+    (read .ensures .0)
+    (read .ensures .1 .0)
     (refused (c .before))
     refl
     refl
@@ -122,22 +136,25 @@ same-length-6 c = search needs
 
 returns-3 : tie.Need-returns-3
 returns-3 c =
-    let args = start (c .before .before .before .before .before .before .before .before .before .before) .args in
-    let answer = c .before .before .before .before .before .before .before .before .before .before .compare in
-    picks _ _ (args .sets .now) (args .coeffs .now) _ _ _ theFirst _ _ _ _ (answer .ensures .0) (answer .ensures .1 .0)
-    (answer .ensures .1 .1 .0)
-    (taken (c .before .before) ∙ ap (λ (b : Bool). cond b theSecond theFirst) (c .before .if1 .left))
-    (c .whole2 .ensures .0)
+    let at-taken = c .before .before in
+    let at-read = answered (known at-taken) in
+    let args = start at-read .args in
+    let read = at-read .compare-read in
+    picks _ _ (args .sets .now) (args .coeffs .now) _ _ (answerOf (read .result)) theFirst _ _ _ _ (read .ensures .0) (read .ensures .1 .0)
+    (taken at-taken ∙ ap (λ (b : Bool). cond b theSecond theFirst) (c .before .if1 .left))
+    (c .whole2 .ensures .0 ∙ own-of (both-read (known at-taken) .1))
     (c .whole2 .ensures .1)
 
 pub pick-spec : {M : Type 1} → statement M
 pick-spec =
     tie.close
     (tie.spec
-    compare-requires
+    compare-read-requires
     enum-told
     slice-aggregate-result
     enum-known-outcome
+    gate-bytes-requires
+    gate-bytes-requires-2
     takes-second-requires
     whole-requires
     same-length

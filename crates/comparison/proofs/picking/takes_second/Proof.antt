@@ -17,13 +17,13 @@ enum-told-3 : tie.Need-enum-told-3
 enum-told-3 c = search needs
 
 returns : tie.Need-returns
-returns c = λ n m gs hs e f. rw (c .before .enum-told .given .1) (c .second-is-better .ensures n m gs hs e f)
+returns c = rw (c .before .enum-told .given .1) (c .second-is-better .ensures)
 
 returns-2 : tie.Need-returns-2
-returns-2 c = λ n m gs hs e f. rw (c .enum-told2 .given .1)
+returns-2 c = search needs
 
 returns-3 : tie.Need-returns-3
-returns-3 c = λ n m gs hs e f. rw (c .enum-told3 .given .1)
+returns-3 c = search needs
 
 pub takes-second-spec : {M : Type 1} → statement M
 takes-second-spec =

@@ -1,4 +1,4 @@
--- `phase_sum::counting::is_h` meets its contract: a gate counts as an H by its kind byte.
+-- `phase_sum_terms::counting::is_h` meets its contract: a gate counts as an H by its kind byte.
 -- Assumes nothing.
 use borrow.Author.Tests.{eq-eqb, ne-eqb}
 use Rattle.phase_sum_terms.proofs.Tallying.{h-by-kind}

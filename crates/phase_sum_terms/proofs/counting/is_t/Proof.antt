@@ -1,4 +1,4 @@
--- `phase_sum::counting::is_t` meets its contract: a gate counts as a T by its kind byte, which is that of T or of its inverse.
+-- `phase_sum_terms::counting::is_t` meets its contract: a gate counts as a T by its kind byte, which is that of T or of its inverse.
 -- Assumes nothing.
 use borrow.Author.Tests.{eq-eqb, ne-eqb}
 use Rattle.phase_sum_terms.proofs.Tallying.{t-by-kind}
