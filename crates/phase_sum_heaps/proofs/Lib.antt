@@ -1,0 +1,2 @@
+-- Laws behind the sorts without a pivot.
+pub mod Heaps
