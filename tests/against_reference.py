@@ -1,167 +1,408 @@
 #!/usr/bin/env python3
-"""Runs the built program `compare` on thousands of random pairs and holds every line that it prints to the independent implementation
-beside this file: all eight fields or the refusal. Up to 6 qubits, equal and different are also held to exact dense columns.
+"""Holds the engine to the independent implementation beside this file: the program calls, which drives every public call with rows of text,
+and the program compare, which reads two records.
 
-    rt check compare && python3 tests/against_reference.py [PAIRS]
+    rt check calls compare && python3 tests/against_reference.py [TIMES]
 
-It prints how often each verdict and each refusal came up, and fails where one never did or a line differs.
+Fixed cases at the limits come first, then random families (random_pairs.py) that reach every rule; TIMES multiplies the random cases. Up to
+5 qubits, equal and different are also held to exact dense columns. Every class of cases is counted. The run fails where a line differs or
+a class never came up.
 """
 import os
 import random
 import subprocess
 import sys
+import tempfile
 from collections import Counter
 
+import call_rows
+import random_pairs as pairs
 import reference as ref
+from call_rows import list_text, row
+from classes import CLASSES, kind_class
 
 ROOT = os.path.join(os.path.dirname(os.path.abspath(__file__)), "..")
-PROGRAM = os.path.join(ROOT, "target", "bin", "compare")
 SEED = 20261115
-EXPECTED = ["equal", "different", "undecided"] + [f"refused {k}" for k in (1, 2, 3, 4, 5, 6, 7, 8, 9, 12)]
-FAMILIES = (
-    list(range(11)),
-    [ref.X, ref.Y, ref.Z, ref.S, ref.SI, ref.H, ref.CX, ref.CZ, ref.SWAP],
-    [ref.T, ref.TI, ref.H, ref.CX, ref.CZ],
-    [ref.H, ref.CZ, ref.S],
-    [ref.Z, ref.S, ref.SI, ref.T, ref.TI, ref.CX, ref.SWAP],
-)
+
+def fail(words):
+    sys.exit(f"against_reference: {words}")
 
 
-def random_gate(rng, n, kinds):
-    kind = rng.choice(kinds)
-    if n == 1 and kind > ref.H:
-        kind = rng.randint(ref.X, ref.H)
-    a = rng.randrange(n)
-    b = 255 if kind <= ref.H else rng.choice([q for q in range(n) if q != a])
-    return kind, a, b
+class Check:
+    """Rows and inputs of programs, with what they must print, and the classes that came up."""
+
+    def __init__(self):
+        self.seen = Counter()
+        self.rows = []
+        self.lines = []
+
+    def see(self, *names):
+        self.seen.update(names)
+
+    def row(self, text):
+        """One row more. Gives its answer and the events on the way."""
+        events = []
+        text = f"{len(self.rows)};{text}"
+        self.rows.append(text)
+        self.lines.append(call_rows.line(text, events))
+        answer = self.lines[-1].split(": ", 1)[1]
+        if answer == "bad row":
+            self.see("bad row")
+        return answer, events
+
+    def simple(self, call, **parts):
+        """A row of the record layer, by the first word of its answer."""
+        answer, _ = self.row(row("", call, **parts)[1:])
+        words = answer.split()
+        if call == "gates":
+            self.see("gates: none" if words[1] == "-" else "gates: some")
+        elif words[0] == "refused":
+            self.see(f"{call}: refused {words[1]}")
+        else:
+            self.see(f"{call}: {words[0]}")
+        return words
+
+    def run_rows(self):
+        """All rows through one process."""
+        with tempfile.TemporaryFile() as given, tempfile.TemporaryFile() as printed:
+            given.write("".join(text + "\n" for text in self.rows).encode())
+            given.seek(0)
+            done = subprocess.run([program("calls")], stdin=given, stdout=printed)
+            printed.seek(0)
+            lines = printed.read().decode().splitlines()
+        if done.returncode:
+            fail(f"calls ended with {done.returncode}")
+        for text, want, got in zip(self.rows, self.lines, lines):
+            if want != got:
+                fail(f"row\n{text}\nprinted\n{got}\nwanted\n{want}")
+        if lines[len(self.rows) :] != [f"rows {len(self.rows)}"]:
+            fail(f"calls printed {len(lines)} lines for {len(self.rows)} rows")
+
+    def run_program(self, data, want=None):
+        """The program compare on these bytes, held to the independent implementation and to the given line."""
+        line = ref.run_program(data)
+        done = subprocess.run([program("compare")], input=data, capture_output=True)
+        if done.returncode < 0 or done.stdout.decode() != line + "\n":
+            fail(f"compare on\n{data[:4000].hex()}\nprinted {done.stdout!r}, wanted {line!r}")
+        if want is not None and line != want:
+            fail(f"the independent implementation says {line!r} where {want!r} is written")
+        words = line.split()
+        self.see("program: " + (line if words[0] == "refused" else words[0]))
+        return line
 
 
-def random_list(rng, n, kinds, length, hadamards):
-    gates = []
-    for _ in range(length):
-        gate = random_gate(rng, n, kinds)
-        if gate[0] == ref.H:
-            if not hadamards:
-                continue
-            hadamards -= 1
-        gates.append(gate)
-    return gates
+def program(name):
+    path = os.path.join(ROOT, "target", "bin", name)
+    if not os.path.exists(path):
+        fail(f"target/bin/{name} is not built: rt check {name}")
+    return path
 
 
-def identity(rng, n):
-    """Gates that do nothing, up to a power of ω."""
-    q = rng.randrange(n)
-    one = [
-        [ref.X] * 2,
-        [ref.Y] * 2,
-        [ref.H] * 2,
-        [ref.T] * 8,
-        [ref.S, ref.SI],
-        [ref.S, ref.H] * 3,
-        [ref.H, ref.Z, ref.H, ref.X],
-        [ref.T, ref.T, ref.SI],
-        [ref.Z, ref.X, ref.Y],
-    ]
-    gates = [(k, q, 255) for k in rng.choice(one)]
-    if n > 1 and rng.random() < 0.4:
-        p = rng.choice([r for r in range(n) if r != q])
-        gates = rng.choice(
-            [
-                [(ref.CX, q, p)] * 2,
-                [(ref.CZ, q, p), (ref.CZ, p, q)],
-                [(ref.SWAP, q, p), (ref.CX, q, p), (ref.CX, p, q), (ref.CX, q, p)],
-                [(ref.H, p, 255), (ref.CX, q, p), (ref.H, p, 255), (ref.CZ, q, p)],
-            ]
-        )
-    return gates
+# Pairs.
 
 
-def pair(rng):
-    """Two lists on as many qubits: unrelated, or the second rewritten, and sometimes spoilt by one gate."""
-    n = rng.randint(1, rng.choice((2, 4, 6, 16)))
-    kinds = rng.choice(FAMILIES)
-    most = (60 - n) // 2
-    first = random_list(rng, n, kinds, rng.choice((0, 3, 10, 40, 150)), rng.randint(0, most))
-    if rng.random() < 0.3:
-        return n, first, random_list(rng, n, kinds, rng.choice((0, 3, 10, 40)), rng.randint(0, most))
-    second = list(first)
-    for _ in range(rng.randint(0, 4)):
-        more = identity(rng, n)
-        h = sum(g[0] == ref.H for g in first + second + more)
-        if len(second) + len(more) <= 512 and n + h <= 64:
-            at = rng.randint(0, len(second))
-            second[at:at] = more
-    if rng.random() < 0.4 and second:
-        second[rng.randrange(len(second))] = random_gate(rng, n, [k for k in range(11) if k != ref.H])
-    return n, first, second
+def pair_number(first, second, words, places):
+    try:
+        ref.read_pair(first, second, words, places)
+    except ref.Refused as refusal:
+        return refusal.number
+    return None
 
 
-def damaged(rng, data):
-    """The input with a fault, or a pair that does not belong together."""
-    data = bytearray(data)
-    fault = rng.randrange(8)
-    if fault == 0:
-        return bytes(data[: rng.randrange(len(data) + 1)])
-    if fault == 1:
-        return bytes(data) + bytes(rng.randrange(256) for _ in range(rng.randint(1, 4)))
-    if fault == 2:
-        data[rng.randrange(5)] = rng.randrange(256)
-    elif fault == 3:
-        n = rng.choice((1, 2, 16))
-        return bytes(data[: 5 + 3 * (data[3] | data[4] << 8)]) + ref.record(n, [])
-    elif fault == 4:
-        n = rng.choice((1, 8, 16))
-        return ref.record(n, [(ref.H, 0, 255)] * (64 - n + rng.randint(0, 1))) + ref.record(n, [])
-    elif fault == 5:
-        n, gates = 2, [(ref.CX, 0, 1)] * rng.randint(1, 4)
-        kind, a, b = gates[-1]
-        gates[-1] = rng.choice([(11, a, b), (kind, 2, b), (kind, a, 255), (kind, a, a), (ref.T, a, 0), (ref.T, 2, 255)])
-        return ref.record(n, gates) + ref.record(n, [])
-    else:
-        data[rng.randrange(len(data))] = rng.randrange(256)
-    return bytes(data)
+def compare_row(check, numbers, first, second, call="compare"):
+    """A row of the comparison or the pick. Gives the eight fields, or the number of the refusal."""
+    answer, events = check.row(row("", call, numbers, first, second)[1:])
+    a = call_rows.bytes_of(first.hex() if isinstance(first, bytes) else first)
+    b = a if second == "=" else call_rows.bytes_of(second.hex() if isinstance(second, bytes) else second)
+    number = pair_number(a, b, *numbers[:2])
+    if second == "=":
+        check.see("compare: one slice given twice")
+    if number:
+        check.see(f"{call}: refused {number}")
+        return number
+    n, gates, others = ref.read_pair(a, b, *numbers[:2])
+    if call == "pick":
+        why = choice(gates, others, answer.split()[0], events)
+        check.see(f"pick: {why}")
+        if "different" not in why and "undecided" not in why:
+            see_kinds(check, gates, others)
+        return None
+    fields = answer.split(",")[0].split()
+    see_events(check, n, gates, others, fields, events)
+    check.see(f"compare: workspaces of {'3136' if numbers[:2] == (3136, 3136) else 'more'} places")
+    if numbers[2] == 0:
+        check.see("compare: workspaces of 0 at the start")
+    if len(a) > len(ref.record(n, gates)):
+        check.see("compare: bytes behind a record")
+    return fields
 
 
-def printed(data):
-    return subprocess.run([PROGRAM], input=data, capture_output=True, check=True).stdout.decode()
+def choice(gates, others, which, events):
+    """Why the pick chose what it did."""
+    if events[-1:] == ["none ready"]:
+        return f"{which}, undecided"
+    if any(word in events[-1] for word in ("blocked", "differ")) if events else False:
+        return f"{which}, different"
+    if ref.t_gates(gates) != ref.t_gates(others):
+        return f"{which}, fewer T gates"
+    if len(gates) != len(others):
+        return f"{which}, fewer gates"
+    return f"{which}, a tie"
 
 
-def check_columns(n, first, second, line):
+def see_kinds(check, gates, others):
+    """The kinds on which the choice between equal lists hangs."""
+
+    def takes_second(kinds):
+        worth = [(sum(k in kinds for k, _, _ in list_), len(list_)) for list_ in (others, gates)]
+        return worth[0] < worth[1]
+
+    t = {ref.T, ref.TI}
+    for kind in range(11):
+        if takes_second(t ^ {kind}) != takes_second(t):
+            check.see(kind_class(kind))
+
+
+def see_events(check, n, gates, others, fields, events):
+    """The classes of an accepted comparison."""
+    names = [fields[0], *set(events)]
+    h = pairs.h_gates(gates + others)
+    no_t = ref.t_gates(gates) + ref.t_gates(others) == 0
+    shapes = {
+        "more than 13 pins": int(fields[3]) > 13,
+        "16 qubits, 48 H gates": (n, h) == (16, 48),
+        "64 variables": n + h == 64,
+        "512 gates on 1 qubit": n == 1 and len(gates) == 512,
+        "512 gates on 16 qubits": n == 16 and len(gates) == 512,
+        "512 gates in both lists": len(gates) == len(others) == 512,
+        f"no T gate: {fields[0]}": no_t,
+        "difference of weight 3 on 16 qubits": n == 16 and "difference of weight 3" in events,
+    }
+    if no_t and fields[0] == "undecided":
+        fail("undecided without a T gate")
+    if sum(map(int, fields[3:7])) + int(fields[6]) + int(fields[7]) != h:
+        fail(f"the counts {fields} do not add up to {h} H gates")
+    check.see(*(f"compare: {name}" for name in names), *(f"compare: {name}" for name, yes in shapes.items() if yes))
+
+
+def check_columns(check, n, first, second, fields):
     """Equal and different against the amplitudes."""
-    fields = line.split()
     columns = ref.Columns(first, second)
-    if fields[0] == "equal":
-        assert columns.carry(n), line
-    elif fields[0] == "different":
+    if fields[0] == "equal" and not columns.carry(n):
+        fail(f"equal, but no power carries {list_text(n, first)} to {list_text(n, second)}")
+    if fields[0] == "different":
         a, b = int(fields[1]), int(fields[2])
-        assert a < 1 << n and b < 1 << n, line
-        assert not columns.fitting(a) & columns.fitting(b), line
-    if not any(k in (ref.T, ref.TI) for k, _, _ in first + second):
-        assert fields[0] == ("equal" if columns.carry(n) else "different"), line
+        if a >> n or b >> n or columns.fitting(a) & columns.fitting(b):
+            fail(f"different at {a} and {b}, but a power fits both columns: {list_text(n, first)} and {list_text(n, second)}")
+    check.see(f"compare: dense columns: {fields[0]}")
+
+
+def is_small(n, first, second):
+    return n <= 5 and len(first) + len(second) <= 60 and pairs.h_gates(first + second) <= 14
+
+
+def workspace_numbers(rng):
+    """Lengths of both workspaces, mostly enough, and what they hold before."""
+    enough = [(3136, 3136), (3200, 3200), (3136, 3200), (3137, 3136)]
+    short = [(3135, 3136), (3136, 3135), (0, 0), (3135, 3135), (rng.randrange(3136), 3136), (3136, rng.randrange(3136))]
+    return (*rng.choice(enough if rng.random() < 0.95 else short), rng.choice((0, rng.randrange(1, 10**17))))
+
+
+def lent(rng, n, gates):
+    """A list as a row lends it: as text, or as bytes with or without some behind."""
+    if rng.random() < 0.4:
+        return list_text(n, gates)
+    return ref.record(n, gates) + bytes(rng.randrange(256) for _ in range(rng.choice((0, 0, 1, 7))))
+
+
+def random_pair_row(check, rng, call, families=pairs.FAMILIES):
+    """A pair of a random family; now and then one of the two is damaged, or on other qubits, or the first is given twice."""
+    n, first, second = rng.choice(families)(rng)
+    a, b = lent(rng, n, first), lent(rng, n, second)
+    luck = rng.random()
+    if luck < 0.12:
+        a, b = rng.choice(((pairs.damaged(rng, ref.record(n, first)), b), (a, pairs.damaged(rng, ref.record(n, second)))))
+    elif luck < 0.14:
+        b = ref.record(rng.choice([m for m in range(1, 17) if m != n]), [])
+    elif luck < 0.18:
+        b = "="
+    fields = compare_row(check, workspace_numbers(rng), a, b, call)
+    if call == "compare" and luck >= 0.18 and isinstance(fields, list) and is_small(n, first, second):
+        check_columns(check, n, first, second, fields)
+    if luck >= 0.18 and fields == 9 and (n, pairs.h_gates(first + second)) == (16, 49):
+        check.see("compare: 16 qubits, 49 H gates")
+
+
+# Records and reports.
+
+
+def record_rows(check, rng):
+    """check, gates and inverse of a random record, often damaged."""
+    n, gates, _ = rng.choice(pairs.FAMILIES)(rng)
+    data = lent(rng, n, gates)
+    if rng.random() < 0.6:
+        data = pairs.damaged(rng, ref.record(n, gates))
+    check.simple("check", first=data)
+    check.simple("gates", first=data)
+    size = 5 + 3 * len(gates)
+    room = max(0, size + rng.choice((-size, -1, 0, 0, 1, 5)))
+    buffer = rng.randbytes(room + rng.choice((0, 3)))
+    words = check.simple("inverse", numbers=(room,), first=data, second=buffer)
+    if words[0] == "length" and len(gates) == 512:
+        check.see("inverse: 512 gates")
+    if words[0] == "length":
+        length = int(words[1])
+        twice = check.simple("inverse", numbers=(room,), first=bytes.fromhex(words[2])[:length], second=buffer)
+        read = call_rows.bytes_of(data if isinstance(data, str) else data.hex())
+        if bytes.fromhex(twice[2])[:length] != read[:length]:
+            fail(f"inverse twice of {data} is {twice[2]}")
+        check.see("inverse: twice")
+
+
+def builder_rows(check, rng):
+    """start and a chain of adds in one buffer, some refused; the buffer of each row is what the row before left."""
+    n, gates, _ = rng.choice((pairs.mixed, pairs.few_gates, pairs.diagonal))(rng)
+    gates = gates[:12]
+    size = 5 + 3 * rng.randint(0, len(gates) + 1) + rng.choice((0, 0, 1, 2))
+    buffer = rng.randbytes(size + rng.choice((0, 0, 4)))
+    m = n if rng.random() < 0.8 else rng.choice((0, 17, 255, 10**9))
+    words = check.simple("start", numbers=(rng.choice((size, size, 0, 4)), m), second=buffer)
+    buffer = bytes.fromhex(words[2].replace("-", ""))
+    for gate in gates if words[0] == "length" else gates[:1]:
+        gate = gate if rng.random() < 0.85 else pairs.bad_gate(rng, n)
+        words = check.simple("add", numbers=(min(size, len(buffer)), *gate), second=buffer)
+        buffer = bytes.fromhex(words[2].replace("-", ""))
+        if rng.random() < 0.05:
+            buffer = pairs.damaged(rng, buffer or b"\0")
+    gate = pairs.random_gate(rng, n, pairs.ALL) if rng.random() < 0.5 else pairs.bad_gate(rng, n)
+    check.simple("check_gate", numbers=(n, *gate))
+
+
+def report_rows(check, rng):
+    """A report written, read back, and read with a fault."""
+    fields = [rng.choice((0, 1, 2, 2, 3, 255)), *(rng.choice((0, 1, rng.randrange(65536))) for _ in range(2))]
+    fields += [rng.randrange(256) for _ in range(5)]
+    room = rng.choice((0, 11, 12, 12, 13))
+    words = check.simple("write_report", numbers=(room, *fields), second=rng.randbytes(room + rng.choice((0, 2))))
+    data = bytes.fromhex(words[2].replace("-", ""))
+    read = check.simple("read_report", first=data)
+    if words[0] == "length" and read[1:] != [str(x) for x in fields]:
+        fail(f"report of {fields} reads back as {read}")
+    data = bytearray(data)
+    if data:
+        data[rng.randrange(min(3, len(data)))] = rng.choice((0, 2, 3, 0x51, 0x56, 0x43))
+        check.simple("read_report", first=bytes(data[: rng.choice((11, 12, 14))]))
+
+
+def bad_rows(check, rng):
+    """A row with one character replaced, taken out or put in: often bad, and the same for both."""
+    text = rng.choice(check.rows).split(";", 1)[1]
+    if len(text) > 300:
+        return
+    at = rng.randrange(len(text))
+    text = text[:at] + rng.choice(("", *";: =-0xhg", text[at] * 2)) + text[at + 1 :]
+    check.row(text)
+
+
+# Fixed cases.
+
+
+def full_records():
+    """Two records of 512 gates: on 1 qubit, on 16 qubits with 48 H gates, and on 16 qubits with 512 gates on two."""
+    h = pairs.one(ref.H, *range(16))
+    rest = [(ref.CX, q % 16, (q + 5) % 16) for q in range(512 - 24)]
+    return (
+        (1, pairs.one(ref.T, *[0] * 512), pairs.one(ref.TI, *[0] * 512), "equal 0 0 0 0 0 0 0"),
+        (16, h + h[:8] + rest, h + h[:8] + rest, "equal 0 0 16 16 0 8 0"),
+        (16, [(ref.SWAP, 0, 15)] * 512, [(ref.CZ, 15, 0)] * 512, "equal 0 0 0 0 0 0 0"),
+    )
+
+
+def fixed_inputs(check):
+    """The program at its limits."""
+    example = bytes.fromhex("514301060003 00FF0700FF0300FF0700FF0300FF0700FF5143010000")
+    check.run_program(example, "equal 0 0 1 1 1 0 0")
+    check.run_program(b"", "refused 1")
+    for n, first, second, line in full_records():
+        data = ref.record(n, first) + ref.record(n, second)
+        if len(data) != 3082:
+            fail(f"{len(data)} bytes where 3082 are meant")
+        check.run_program(data, line)
+        check.run_program(data[:-1], "refused 1")
+        check.run_program(data + b"\0", "refused 12")
+        check.run_program(data + b"\0" * 1000000, "refused 12")
+        check.run_program(b"\0" + data * 400, "refused 2")
+        check.see("program: 3082 bytes", "program: 3083 bytes", "program: 1000000 bytes")
+    for n, h, line in ((16, 48, "different 0 0 16 0 0 16 0"), (16, 49, "refused 9"), (1, 64, "refused 9")):
+        data = ref.record(n, pairs.one(ref.H, *(q % n for q in range(h))))
+        check.run_program(data + ref.record(n, []), line)
+    check.run_program(ref.record(17, []) + ref.record(17, []), "refused 3")
+    check.run_program(ref.record(1, pairs.one(ref.X, *[0] * 513)) + ref.record(1, []), "refused 4")
+
+
+def fixed_rows(check):
+    """The calls at their limits."""
+    for n, first, second, line in full_records():
+        for numbers in ((3136, 3136, 1), (3200, 3200, 0)):
+            fields = compare_row(check, numbers, ref.record(n, first), ref.record(n, second))
+            if " ".join(fields) != line:
+                fail(f"the independent implementation says {fields} where {line!r} is written")
+            compare_row(check, numbers, list_text(n, first), "=", "pick")
+        compare_row(check, (3136, 3136, 1), ref.record(n, first), ref.record(n, second), "pick")
+        check.simple("inverse", numbers=(1541,), first=ref.record(n, first), second=bytes(1541))
+        check.simple("inverse", numbers=(1540,), first=ref.record(n, first), second=bytes(1541))
+        words = check.simple("add", numbers=(1544, ref.X, 0, 255), second=ref.record(n, first) + bytes(3))
+        check.see("add: at 512 gates, " + " ".join(words[:2]))
+        words = check.simple("add", numbers=(1541, ref.X, 0, 255), second=ref.record(n, first[:511]) + bytes(3))
+        check.see("add: at 511 gates, " + " ".join(words[:2]))
+    for words in (0, 1, 3135, 3136, 3137):
+        for places in (0, 1, 3135, 3136, 3137):
+            for call in ("compare", "pick"):
+                compare_row(check, (words, places, 12345), "1:t0 t0", "1:s0", call)
+
+
+def damaged_input(rng, data):
+    """The program's input with a fault, or a pair that does not belong together."""
+    fault = rng.randrange(5)
+    if fault == 0:
+        return data[: rng.randrange(len(data) + 1)]
+    if fault == 1:
+        return data + rng.randbytes(rng.randint(1, 4))
+    first = ref.read_record(data)[2]
+    if fault == 2:
+        return data[:first] + ref.record(rng.choice((1, 2, 16)), [])
+    if fault == 3:
+        return data[:first] + pairs.damaged(rng, data[first:])
+    return pairs.damaged(rng, data[:first]) + data[first:]
 
 
 def main():
-    pairs = int(sys.argv[1]) if len(sys.argv) > 1 else 12000
+    times = int(sys.argv[1]) if len(sys.argv) > 1 else 1
     rng = random.Random(SEED)
-    tally, dense = Counter(), 0
-    for i in range(pairs):
-        n, first, second = pair(rng)
+    check = Check()
+    fixed_inputs(check)
+    fixed_rows(check)
+    for _ in range(4000 * times):
+        random_pair_row(check, rng, "compare")
+    for i in range(2000 * times):
+        random_pair_row(check, rng, "pick", (pairs.worth,) if i % 3 == 0 else pairs.FAMILIES)
+    for _ in range(600 * times):
+        record_rows(check, rng)
+        builder_rows(check, rng)
+        report_rows(check, rng)
+        bad_rows(check, rng)
+    check.run_rows()
+    inputs = 2000 * times
+    for i in range(inputs):
+        n, first, second = rng.choice(pairs.FAMILIES)(rng)
         data = ref.record(n, first) + ref.record(n, second)
-        if i % 4 == 0:
-            data = damaged(rng, data)
-        want, got = ref.run_program(data), printed(data)
-        if got != want + "\n":
-            sys.exit(f"{data.hex()}\nprinted {got!r}\nwanted  {want!r}")
-        tally[want if want.startswith("refused") else want.split()[0]] += 1
-        if i % 4 and n <= 6 and len(first) + len(second) <= 60 and sum(g[0] == ref.H for g in first + second) <= 20:
-            check_columns(n, first, second, want)
-            dense += 1
-    for name in EXPECTED:
-        print(f"{name}: {tally[name]}")
-    print(f"{pairs} pairs, {dense} of them also against dense columns: all agree")
-    missing = [name for name in EXPECTED if not tally[name]]
+        check.run_program(damaged_input(rng, data) if i % 3 == 0 else data)
+    for name in CLASSES:
+        print(f"{check.seen[name]:7} {name}")
+    missing = [name for name in CLASSES if not check.seen[name]]
     if missing:
-        sys.exit(f"never seen: {', '.join(missing)}")
+        fail(f"never came up: {', '.join(missing)}")
+    print(f"{len(check.rows)} rows and {inputs} random inputs: all agree with the independent implementation")
 
 
 if __name__ == "__main__":

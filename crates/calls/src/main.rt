@@ -14,7 +14,7 @@ use libc::STDIN_FILENO;
 use row_text::plus;
 use row_text::print;
 
-// More input: the rows that end in it. Whether there was any.
+// More input, and the rows that end in it; or that the input has ended.
 fn read_some(line: &mut [u8], lines: Lines) -> Lines {
     let mut buffer = io::large_buffer();
     let got = io::read_full(STDIN_FILENO, &mut buffer);

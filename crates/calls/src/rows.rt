@@ -11,7 +11,7 @@ use row_text::print;
 fn pair(picks: bool, numbers: &[u8], first: &[u8], second: &[u8]) {
     let mut a = [0xa5u8; MOST_BYTES];
     let mut b = [0xa5u8; MOST_BYTES];
-    let Bytes::Count(size) = record_rows::read(first, &mut a) else {
+    let Bytes::Count(size) = record_rows::bytes_of(first, &mut a) else {
         print::bad();
         return;
     };
@@ -19,7 +19,7 @@ fn pair(picks: bool, numbers: &[u8], first: &[u8], second: &[u8]) {
         pairs::run(picks, numbers, front(&a, size), front(&a, size));
         return;
     }
-    let Bytes::Count(other) = record_rows::read(second, &mut b) else {
+    let Bytes::Count(other) = record_rows::bytes_of(second, &mut b) else {
         print::bad();
         return;
     };

@@ -46,12 +46,17 @@ struct Seen {
     kept: usize,
 }
 
-// One place more.
-fn and(seen: Seen, is_zero: bool, is_kept: bool) -> Seen {
+// One place more: what it holds, and what it held before.
+fn and(seen: Seen, at: usize, held: u64, before: u64) -> Seen {
     Seen {
-        zero: plus(seen.zero, is_zero),
-        kept: plus(seen.kept, is_kept),
+        zero: plus(seen.zero, is_zero_place(at, held)),
+        kept: plus(seen.kept, held == before),
     }
+}
+
+// Is this a place that a comparison uses, and does it hold 0?
+fn is_zero_place(at: usize, held: u64) -> bool {
+    if at < PLACES { held == 0 } else { false }
 }
 
 // The words afterwards.
@@ -60,27 +65,7 @@ fn words_seen(words: &[u64], seed: u64) -> Seen {
     let mut x = seed;
     let mut i = 0;
     while i < words.len() {
-        let word = words[i];
-        seen = and(seen, is_zero_place(word, i), word == x);
-        x = next(x);
-        i += 1;
-    }
-    seen
-}
-
-// Is this a place that a comparison uses, and does it hold 0?
-fn is_zero_place(held: u64, at: usize) -> bool {
-    if at < PLACES { held == 0 } else { false }
-}
-
-// The bytes afterwards.
-fn bytes_seen(bytes: &[u8], seed: u64) -> Seen {
-    let mut seen = Seen { zero: 0, kept: 0 };
-    let mut x = seed;
-    let mut i = 0;
-    while i < bytes.len() {
-        let byte = bytes[i];
-        seen = and(seen, is_zero_place(wide(byte), i), byte == byte_of(x));
+        seen = and(seen, i, words[i], x);
         x = next(x);
         i += 1;
     }
@@ -90,6 +75,19 @@ fn bytes_seen(bytes: &[u8], seed: u64) -> Seen {
 // A byte as a word.
 fn wide(x: u8) -> u64 {
     x as u64
+}
+
+// The bytes afterwards.
+fn bytes_seen(bytes: &[u8], seed: u64) -> Seen {
+    let mut seen = Seen { zero: 0, kept: 0 };
+    let mut x = seed;
+    let mut i = 0;
+    while i < bytes.len() {
+        seen = and(seen, i, wide(bytes[i]), wide(byte_of(x)));
+        x = next(x);
+        i += 1;
+    }
+    seen
 }
 
 // What was seen of a workspace.

@@ -5,7 +5,7 @@ mod names;
 mod readers;
 mod writers;
 
-pub use lists::read;
+pub use lists::bytes_of;
 use row_text::Bytes;
 use row_text::print;
 
@@ -23,7 +23,7 @@ pub fn front(s: &[u8], size: usize) -> &[u8] {
 // A call that reads.
 fn reader(call: u8, numbers: &[u8], text: &[u8]) {
     let mut bytes = [0xa5u8; MOST_BYTES];
-    match read(text, &mut bytes) {
+    match bytes_of(text, &mut bytes) {
         Bytes::Count(size) => readers::run(call, numbers, front(&bytes, size)),
         Bytes::Bad => print::bad(),
     }
@@ -31,7 +31,7 @@ fn reader(call: u8, numbers: &[u8], text: &[u8]) {
 
 // A call that writes, on a buffer of a row's bytes.
 fn write_into(call: u8, numbers: &[u8], record: &[u8], text: &[u8], buffer: &mut [u8]) {
-    match read(text, buffer) {
+    match bytes_of(text, buffer) {
         Bytes::Count(size) => {
             if size > buffer.len() {
                 print::bad();
@@ -47,7 +47,7 @@ fn write_into(call: u8, numbers: &[u8], record: &[u8], text: &[u8], buffer: &mut
 fn writer(call: u8, numbers: &[u8], first: &[u8], second: &[u8]) {
     let mut record = [0xa5u8; MOST_BYTES];
     let mut buffer = [0xa5u8; MOST_BYTES];
-    match read(first, &mut record) {
+    match bytes_of(first, &mut record) {
         Bytes::Count(size) => {
             write_into(call, numbers, front(&record, size), second, &mut buffer);
         }

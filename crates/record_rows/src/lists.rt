@@ -105,7 +105,7 @@ fn record(text: &[u8], buffer: &mut [u8]) -> Bytes {
 }
 
 // The bytes of a row's part, at the front of the buffer: how many are lent.
-pub fn read(text: &[u8], buffer: &mut [u8]) -> Bytes {
+pub fn bytes_of(text: &[u8], buffer: &mut [u8]) -> Bytes {
     if row_text::parts(text, b':') == 2 {
         return record(text, buffer);
     }

@@ -15,17 +15,17 @@ abbrev μ-loop : tie.MeasureT-loop
 loop-holds : tie.Need-loop-holds Inv-loop μ-loop
 loop-holds c = search needs
 
-shared-slice-read-byte : tie.Need-shared-slice-read-byte Inv-loop μ-loop
-shared-slice-read-byte c = search needs
+shared-slice-read-wide : tie.Need-shared-slice-read-wide Inv-loop μ-loop
+shared-slice-read-wide c = search needs
 
 wide-requires : tie.Need-wide-requires Inv-loop μ-loop
 wide-requires c κs = search needs
 
-is-zero-place-requires : tie.Need-is-zero-place-requires Inv-loop μ-loop
-is-zero-place-requires c κs = search needs
-
 byte-of-requires : tie.Need-byte-of-requires Inv-loop μ-loop
 byte-of-requires c κs = search needs
+
+wide-requires-2 : tie.Need-wide-requires-2 Inv-loop μ-loop
+wide-requires-2 c κs = search needs
 
 and-requires : tie.Need-and-requires Inv-loop μ-loop
 and-requires c κs = search needs
@@ -52,10 +52,10 @@ bytes-seen-spec =
     Inv-loop
     μ-loop
     loop-holds
-    shared-slice-read-byte
+    shared-slice-read-wide
     wide-requires
-    is-zero-place-requires
     byte-of-requires
+    wide-requires-2
     and-requires
     next-requires
     add-i

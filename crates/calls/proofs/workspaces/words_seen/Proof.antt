@@ -15,14 +15,11 @@ abbrev μ-loop : tie.MeasureT-loop
 loop-holds : tie.Need-loop-holds Inv-loop μ-loop
 loop-holds c = search needs
 
-mul-word : tie.Need-mul-word Inv-loop μ-loop
-mul-word c = search needs
+mul-and : tie.Need-mul-and Inv-loop μ-loop
+mul-and c = search needs
 
-shared-slice-read-word : tie.Need-shared-slice-read-word Inv-loop μ-loop
-shared-slice-read-word c = search needs
-
-is-zero-place-requires : tie.Need-is-zero-place-requires Inv-loop μ-loop
-is-zero-place-requires c κs = search needs
+shared-slice-read-and : tie.Need-shared-slice-read-and Inv-loop μ-loop
+shared-slice-read-and c = search needs
 
 and-requires : tie.Need-and-requires Inv-loop μ-loop
 and-requires c κs = search needs
@@ -49,9 +46,8 @@ words-seen-spec =
     Inv-loop
     μ-loop
     loop-holds
-    mul-word
-    shared-slice-read-word
-    is-zero-place-requires
+    mul-and
+    shared-slice-read-and
     and-requires
     next-requires
     add-i

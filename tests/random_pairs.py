@@ -1,0 +1,199 @@
+"""Random lists, pairs of lists and damaged records for the cross-check. Every family takes a generator of random numbers and gives n and two
+lists that an accepted pair may have, unless it says otherwise.
+"""
+import reference as ref
+
+ALL = list(range(11))
+CLIFFORD = [k for k in ALL if k not in (ref.T, ref.TI)]
+WITHOUT_H = [k for k in ALL if k != ref.H]
+KINDS = (ALL, CLIFFORD, [ref.T, ref.TI, ref.H, ref.CX, ref.CZ], [ref.H, ref.CZ, ref.S], [k for k in WITHOUT_H if k > ref.Y])
+MOST_GATES, MOST_VARIABLES = 512, 64
+
+
+def h_gates(gates):
+    return sum(kind == ref.H for kind, _, _ in gates)
+
+
+def one(kind, *qubits):
+    """A kind on each of these qubits."""
+    return [(kind, q, 255) for q in qubits]
+
+
+def random_gate(rng, n, kinds):
+    kind = rng.choice([k for k in kinds if n > 1 or k <= ref.H] or [ref.Z])
+    a = rng.randrange(n)
+    return kind, a, 255 if kind <= ref.H else rng.choice([q for q in range(n) if q != a])
+
+
+def random_list(rng, n, kinds, length, hadamards):
+    """So many gates, at most so many of them H."""
+    gates = []
+    others = [k for k in kinds if k != ref.H] or [ref.Z]
+    for _ in range(length):
+        gate = random_gate(rng, n, kinds if hadamards else others)
+        hadamards -= gate[0] == ref.H
+        gates.append(gate)
+    return gates
+
+
+def identity(rng, n):
+    """Gates that do nothing, up to a power of ω."""
+    q = rng.randrange(n)
+    if n > 1 and rng.random() < 0.4:
+        p = rng.choice([r for r in range(n) if r != q])
+        return rng.choice(
+            [
+                [(ref.CX, q, p)] * 2,
+                [(ref.CZ, q, p), (ref.CZ, p, q)],
+                [(ref.SWAP, q, p), (ref.CX, q, p), (ref.CX, p, q), (ref.CX, q, p)],
+                [*one(ref.H, p), (ref.CX, q, p), *one(ref.H, p), (ref.CZ, q, p)],
+            ]
+        )
+    words = ([ref.X] * 2, [ref.Y] * 2, [ref.H] * 2, [ref.T] * 8, [ref.S, ref.SI], [ref.S, ref.H] * 3, [ref.T, ref.TI])
+    more = ([ref.H, ref.Z, ref.H, ref.X], [ref.T, ref.T, ref.SI], [ref.Z, ref.X, ref.Y], [ref.SI] * 4)
+    return [(k, q, 255) for k in rng.choice(words + more)]
+
+
+def rewritten(rng, n, first, times):
+    """The list with gates put in that do nothing."""
+    second = list(first)
+    for _ in range(times):
+        more = identity(rng, n)
+        if len(second) + len(more) <= MOST_GATES and n + h_gates(first + second + more) <= MOST_VARIABLES:
+            at = rng.randint(0, len(second))
+            second[at:at] = more
+    return second
+
+
+def spoilt(rng, n, gates):
+    """The list with one gate replaced."""
+    gates = list(gates)
+    if gates:
+        gates[rng.randrange(len(gates))] = random_gate(rng, n, WITHOUT_H)
+    return gates
+
+
+def mixed(rng):
+    """Unrelated lists, or the second rewritten, and sometimes spoilt."""
+    n = rng.randint(1, rng.choice((2, 4, 6, 16)))
+    kinds = rng.choice(KINDS)
+    most = (60 - n) // 2
+    first = random_list(rng, n, kinds, rng.choice((0, 3, 10, 40, 150)), rng.randint(0, most))
+    if rng.random() < 0.3:
+        return n, first, random_list(rng, n, kinds, rng.choice((0, 3, 10, 40)), rng.randint(0, most))
+    second = rewritten(rng, n, first, rng.randint(0, 4))
+    return n, first, spoilt(rng, n, second) if rng.random() < 0.4 else second
+
+
+def doubly_controlled_z(a, b, c):
+    """Seven T gates on the parities of three qubits."""
+    gates = [(ref.CX, b, c), *one(ref.TI, c), (ref.CX, a, c), *one(ref.T, c), (ref.CX, b, c), *one(ref.TI, c), (ref.CX, a, c)]
+    return gates + [*one(ref.T, b, c), (ref.CX, a, b), *one(ref.T, a), *one(ref.TI, b), (ref.CX, a, b)]
+
+
+def diagonal(rng):
+    """A list and the same with a phase behind it that begins at weight 1, 2 or 3, or with two that cancel."""
+    n = rng.choice((3, 4, rng.randint(3, 15), 16))
+    a, b, c = rng.sample(range(n), 3)
+    phases = [one(rng.choice((ref.T, ref.S, ref.Z)), a), [(ref.CZ, a, b)], doubly_controlled_z(a, b, c)]
+    phases += [doubly_controlled_z(a, b, c), doubly_controlled_z(a, b, c) + doubly_controlled_z(b, c, a)]
+    base = random_list(rng, n, rng.choice((WITHOUT_H, [ref.X, ref.CX, ref.SWAP, ref.T], CLIFFORD)), rng.randint(0, 30), 3)
+    return n, base + rng.choice(phases), rewritten(rng, n, base, rng.randint(0, 2))
+
+
+def wide(rng):
+    """H on 14 qubits or more: as many pins."""
+    n = rng.randint(14, 16)
+    first = one(ref.H, *rng.sample(range(n), n)) + random_list(rng, n, CLIFFORD, 40, 5)
+    second = rewritten(rng, n, first, 3)
+    return n, first, spoilt(rng, n, second) if rng.random() < 0.5 else second
+
+
+def many_h(rng):
+    """As many H gates as a pair may have, or one more, which is refused."""
+    n = rng.choice((1, 8, 16, 16))
+    h = MOST_VARIABLES - n + (rng.random() < 0.3)
+    gates = one(ref.H, *(rng.randrange(n) for _ in range(h))) + random_list(rng, n, WITHOUT_H, rng.randint(0, 60), 0)
+    rng.shuffle(gates)
+    cut = rng.choice((0, len(gates), rng.randint(0, len(gates))))
+    return n, gates[:cut], ref.inverted(gates[cut:])
+
+
+def long(rng):
+    """512 gates in the first list, often in both."""
+    n = rng.choice((1, 16, rng.randint(2, 15)))
+    h = rng.randint(0, (MOST_VARIABLES - n) // 2)
+    first = random_list(rng, n, rng.choice(KINDS), MOST_GATES, h)
+    if rng.random() < 0.2:
+        return n, first, []
+    return n, first, rng.choice((first, spoilt(rng, n, first), random_list(rng, n, ALL, MOST_GATES, h)))
+
+
+def blocked(rng):
+    """A list between X, CX, or H with Z or CZ between, and what undoes the list: pins and joins that are blocked."""
+    n = rng.randint(2, 6)
+    a, b = rng.sample(range(n), 2)
+    fault = rng.choice([one(ref.X, a), [(ref.CX, a, b)], one(ref.H, a) + one(ref.Z, a) + one(ref.H, a)])
+    if rng.random() < 0.4:
+        fault = one(ref.H, a) + [(ref.CZ, a, b)] + one(ref.H, a)
+    base = random_list(rng, n, WITHOUT_H, rng.randint(0, 12), 0)
+    return n, base + fault, rewritten(rng, n, base, 1)
+
+
+def few_gates(rng):
+    """Short lists on one or two qubits: every rule in its smallest form."""
+    n = rng.randint(1, 2)
+    kinds = rng.choice(([ref.H, ref.S], [ref.H, ref.T, ref.X], ALL))
+    return n, random_list(rng, n, kinds, rng.randint(0, 6), 6), random_list(rng, n, kinds, rng.randint(0, 3), 3)
+
+
+def equal(rng):
+    """Equal lists whose T gates and lengths differ: for the pick."""
+    n = rng.randint(1, 3)
+    first = random_list(rng, n, rng.choice((WITHOUT_H, CLIFFORD)), rng.randint(0, 6), 2)
+    pair = [first, rewritten(rng, n, first, rng.randint(0, 2))]
+    if rng.random() < 0.3:
+        pair[1] = pair[1] + [random_gate(rng, n, [ref.Z])] * 2
+    rng.shuffle(pair)
+    return n, *pair
+
+
+def worth(rng):
+    """A list with two ways to do nothing behind it, each some times over: the pick weighs their gates."""
+    n = rng.randint(2, 4)
+    a, b = rng.sample(range(n), 2)
+    words = [[k] * 2 for k in (ref.X, ref.Y, ref.Z, ref.H)] + [[k] * 4 for k in (ref.S, ref.SI)]
+    words += [[k] * 8 for k in (ref.T, ref.TI)] + [[ref.S, ref.SI], [ref.T, ref.TI], [ref.T, ref.T, ref.SI], [ref.S, ref.TI, ref.TI]]
+    ways = [[(k, a, 255) for k in word] for word in words] + [[(k, a, b)] * 2 for k in (ref.CX, ref.CZ, ref.SWAP)]
+    base = random_list(rng, n, WITHOUT_H, rng.randint(0, 3), 0)
+    return n, base + rng.choice(ways) * rng.randint(0, 3), base + rng.choice(ways) * rng.randint(1, 3)
+
+
+FAMILIES = (mixed, diagonal, wide, many_h, long, blocked, few_gates, equal)
+
+
+def bad_gate(rng, n):
+    """A gate that n qubits have not."""
+    a, b = rng.randrange(n), rng.choice([q for q in range(n + 1)])
+    kinds = [(rng.randint(11, 255), a, b), (rng.randint(0, 7), a, rng.randint(0, 254)), (rng.randint(0, 7), rng.randint(n, 255), 255)]
+    return rng.choice(kinds + [(rng.randint(8, 10), a, a), (rng.randint(8, 10), n, a), (rng.randint(8, 10), a, rng.randint(n, 255))])
+
+
+def damaged(rng, data):
+    """A record with a fault; now and then it still is one."""
+    data = bytearray(data)
+    fault = rng.randrange(7) if len(data) >= 5 else 0
+    if fault == 0:
+        return bytes(data[: rng.randrange(len(data))])
+    if fault == 1:
+        data[rng.randrange(2)] = rng.choice((0, 0x43, 0x51, 0x56, rng.randrange(256)))
+    elif fault == 2:
+        data[2] = rng.choice((0, 17, 255))
+    elif fault == 3:
+        data[3:5] = rng.choice((513, 514, 1024, 65535)).to_bytes(2, "little")
+    elif fault < 6 and len(data) >= 8:
+        at = 5 + 3 * rng.randrange((len(data) - 5) // 3)
+        data[at : at + 3] = bytes(bad_gate(rng, max(1, min(data[2], 16))))
+    else:
+        data[rng.randrange(len(data))] = rng.randrange(256)
+    return bytes(data)
