@@ -181,7 +181,9 @@ wrote-length {at} {a} {old} {r} {new} fits w = ap length (w .leaves) ∙ length-
 pub wrote-front : {a old : List ℕ} {r : ℕ} {new : List ℕ} → Wrote 0 a old r new → AtFront a old r new
 wrote-front {a} {old} {r} {new} w =
     let size : r ≡ length a = w .end ∙ zero-add (length a) in
-    record { end = size; leaves = w .leaves ∙ rw size (written-front a old) }
+    let content : new ≡ a ++ drop r old = w .leaves ∙ rw size (written-front a old) in
+    let within : r ≤ length new = omega (arith, ap length content, length-append a (drop r old)) in
+    record { end = size; leaves = content; fits = within; part = sym (length-take-le r new within) }
 
 -- a number of one digit is written
 pub wrote-one :

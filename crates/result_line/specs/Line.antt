@@ -1,11 +1,11 @@
 -- The line that the program prints, as ASCII bytes: document 01, "Pairs to try".
 -- Assumes nothing.
-use Prim.Native.Nat.{ℕ, zero, suc, _+_, _*_, _-_, _/_, _%_}
+use Prim.Native.Nat.{ℕ, zero, suc, _+_, _*_, _-_, _/_, _%_, _≤_}
 use mathlib.Core.Path.{_≡_}
 use mathlib.Core.Bool.{cond}
 use mathlib.Core.List.{List, [], _∷_, _++_}
 use lib.Dec.{ltb}
-use lib.ListN.{length, drop}
+use lib.ListN.{length, take, drop}
 use Rattle.decision.specs.Verdict.{Verdict, equal, different, undecided}
 use Rattle.comparison.specs.Call.{Said, says, refuses}
 
@@ -59,7 +59,9 @@ lineOf (says r) =
 lineOf (refuses k) = lineWith refusedWord (k ∷ [])
 
 -- a text stands at the front of a buffer: r is its length, old the buffer before and new the buffer after; the bytes behind it are as
--- they were
+-- they were. The last two parts follow from the first two; they stand here so that a caller's `&line[..r]` asks for no proof
 pub record AtFront (text old : List ℕ) (r : ℕ) (new : List ℕ) : Type 0 where
   pub end : r ≡ length text
   pub leaves : new ≡ text ++ drop r old
+  pub fits : r ≤ length new
+  pub part : r ≡ length (take r new)
