@@ -1,0 +1,90 @@
+-- `result_line::write_outcome` meets its contract: the line of the verdict's word and the seven numbers.
+-- Assumes nothing.
+use borrow.Author.Needs.{needs}
+use Rattle.result_line.proofs.write_outcome.Statement.{statement}
+use Rattle.result_line.proofs.write_outcome.Tie as tie
+
+cast-t8 : tie.Need-cast-t8
+cast-t8 c = search needs
+
+cast-t9 : tie.Need-cast-t9
+cast-t9 c = search needs
+
+cast-t10 : tie.Need-cast-t10
+cast-t10 c = search needs
+
+cast-t11 : tie.Need-cast-t11
+cast-t11 c = search needs
+
+cast-t12 : tie.Need-cast-t12
+cast-t12 c = search needs
+
+enum-told : tie.Need-enum-told
+enum-told c = search needs
+
+slice-aggregate-put-line : tie.Need-slice-aggregate-put-line
+slice-aggregate-put-line c = search needs
+
+slice-aggregate-put-line-2 : tie.Need-slice-aggregate-put-line-2
+slice-aggregate-put-line-2 c = search needs
+
+put-line-requires : tie.Need-put-line-requires
+put-line-requires c κs = search needs
+
+enum-told-2 : tie.Need-enum-told-2
+enum-told-2 c = search needs
+
+slice-aggregate-put-line-3 : tie.Need-slice-aggregate-put-line-3
+slice-aggregate-put-line-3 c = search needs
+
+slice-aggregate-put-line-4 : tie.Need-slice-aggregate-put-line-4
+slice-aggregate-put-line-4 c = search needs
+
+put-line-requires-2 : tie.Need-put-line-requires-2
+put-line-requires-2 c κs = search needs
+
+enum-told-3 : tie.Need-enum-told-3
+enum-told-3 c = search needs
+
+slice-aggregate-put-line-5 : tie.Need-slice-aggregate-put-line-5
+slice-aggregate-put-line-5 c = search needs
+
+slice-aggregate-put-line-6 : tie.Need-slice-aggregate-put-line-6
+slice-aggregate-put-line-6 c = search needs
+
+put-line-requires-3 : tie.Need-put-line-requires-3
+put-line-requires-3 c κs = search needs
+
+returns : tie.Need-returns
+returns c = rw (c .before .before .before .before .enum-told .given .1) (c .put-line .ensures)
+
+returns-2 : tie.Need-returns-2
+returns-2 c = rw (c .before .before .before .before .enum-told2 .given .1) (c .put-line2 .ensures)
+
+returns-3 : tie.Need-returns-3
+returns-3 c = rw (c .before .before .before .before .enum-told3 .given .1) (c .put-line3 .ensures)
+
+pub write-outcome-spec : {M : Type 1} → statement M
+write-outcome-spec =
+    tie.close
+    (tie.spec
+    cast-t8
+    cast-t9
+    cast-t10
+    cast-t11
+    cast-t12
+    enum-told
+    slice-aggregate-put-line
+    slice-aggregate-put-line-2
+    put-line-requires
+    enum-told-2
+    slice-aggregate-put-line-3
+    slice-aggregate-put-line-4
+    put-line-requires-2
+    enum-told-3
+    slice-aggregate-put-line-5
+    slice-aggregate-put-line-6
+    put-line-requires-3
+    returns
+    returns-2
+    returns-3)

@@ -1,0 +1,634 @@
+#!/usr/bin/env python3
+"""Drives the built program and the script `compare` and `examples/gates` through their limits: every refusal with the border between two
+files, long and cut files, failed reads and writes, one write a line, every exit status, and what the script builds and when.
+
+    rt check compare && python3 tests/front_door.py
+
+It prints what differs and fails where anything does; its last line counts the checks.
+"""
+import importlib.machinery
+import importlib.util
+import os
+import pty
+import random
+import re
+import shutil
+import signal
+import subprocess
+import sys
+import tempfile
+import time
+import tty
+
+ROOT = os.path.realpath(os.path.join(os.path.dirname(os.path.abspath(__file__)), ".."))
+PROGRAM = os.path.join(ROOT, "target", "bin", "compare")
+SCRIPT = os.path.join(ROOT, "compare")
+GATES = os.path.join(ROOT, "examples", "gates")
+NOBODY = 65534
+SECONDS = 120
+HELD = {"checks": 0, "failed": 0}
+
+
+# ---- checks
+def check(label, got, want):
+    """One comparison; a difference is printed and counted."""
+    HELD["checks"] += 1
+    if got != want:
+        HELD["failed"] += 1
+        print(f"FAILED {label}\n    got  {got!r}\n    want {want!r}")
+
+
+def holds(label, what, value):
+    """One condition; value is shown where it does not hold."""
+    HELD["checks"] += 1
+    if not what:
+        HELD["failed"] += 1
+        print(f"FAILED {label}\n    got  {value!r}")
+
+
+def run(words, **more):
+    """(exit status, standard output, standard error) of a command; its input is empty unless given. One that hangs is ended: status None."""
+    data = more.pop("input", None)
+    more.setdefault("stdin", subprocess.DEVNULL if data is None else subprocess.PIPE)
+    more.setdefault("stdout", subprocess.PIPE)
+    child = subprocess.Popen(words, stderr=subprocess.PIPE, start_new_session=True, **more)
+    try:
+        out, err = child.communicate(data, timeout=SECONDS)
+    except subprocess.TimeoutExpired:
+        os.killpg(child.pid, signal.SIGKILL)
+        out, err = child.communicate()
+        return None, out, err.decode()
+    return child.returncode, out, err.decode()
+
+
+# ---- records
+KINDS = dict(zip(("X", "Y", "Z", "S", "S'", "T", "T'", "H", "CX", "CZ", "SWAP"), range(11)))
+
+
+def record(n, gates):
+    """The record of gates such as "H 0" or "CX 0 1"."""
+    body = bytearray()
+    for gate in gates:
+        name, *qubits = gate.split()
+        qubits = [int(q) for q in qubits]
+        body += bytes([KINDS[name], *qubits] + [255] * (2 - len(qubits)))
+    return b"\x51\x43" + bytes([n]) + len(gates).to_bytes(2, "little") + bytes(body)
+
+
+def one(names):
+    """A record on one qubit, by its gates' names."""
+    return record(1, [f"{name} 0" for name in names.split()])
+
+
+EXAMPLE = bytes.fromhex("514301060003 00FF 0700FF 0300FF 0700FF 0300FF 0700FF".replace(" ", ""))
+NOTHING = bytes.fromhex("5143010000")
+FULL = record(1, ["T 0"] * 512)
+# document 01, "Pairs to try": the rows marked P, and CX
+ROWS = (
+    (one(""), NOTHING, "equal 0 0 0 0 0 0 0"),
+    (one("H"), NOTHING, "different 0 0 1 0 0 0 0"),
+    (one("H H"), NOTHING, "equal 0 0 1 1 0 0 0"),
+    (one("H H H H"), NOTHING, "equal 0 0 1 1 0 1 0"),
+    (EXAMPLE, NOTHING, "equal 0 0 1 1 1 0 0"),
+    (one("T T"), one("S"), "equal 0 0 0 0 0 0 0"),
+    (one("T"), NOTHING, "different 0 1 0 0 0 0 0"),
+    (one("X"), NOTHING, "different 0 0 0 0 0 0 0"),
+    (one("H Z H"), NOTHING, "different 0 0 1 0 0 0 1"),
+    (one("H T H"), NOTHING, "undecided 0 0 1 0 0 0 1"),
+    (record(2, ["CX 0 1"]), record(2, []), "different 1 1 0 0 0 0 0"),
+)
+# a file for each number that a list alone is refused by
+BAD = {
+    1: EXAMPLE[:-1],
+    2: b"\x51\x56" + EXAMPLE[2:],
+    3: b"\x51\x43\x11\x00\x00",
+    4: b"\x51\x43\x01\x01\x02" + b"\x05\x00\xff" * 513,
+    5: b"\x51\x43\x01\x01\x00\x0b\x00\xff",
+    6: b"\x51\x43\x01\x01\x00\x07\x01\xff",
+    7: b"\x51\x43\x01\x01\x00\x07\x00\x00",
+}
+WORDS = {"equal": 0, "different": 1, "undecided": 2, "refused": 3}
+
+
+def status_of(line):
+    """The script's exit status for a line."""
+    return WORDS[line.split()[0]]
+
+
+def border_cases():
+    """(label, first file, second file, line): what the border between two files and the end of each decide."""
+    for first, second, line in ROWS:
+        yield f"row {line}", first, second, line
+    yield "empty first, two records in the second", b"", EXAMPLE + NOTHING, "refused 1"
+    yield "two records in the first, empty second", EXAMPLE + NOTHING, b"", "refused 1"
+    yield "both empty", b"", b"", "refused 1"
+    for size in range(len(EXAMPLE)):
+        yield f"first cut to {size} bytes", EXAMPLE[:size], NOTHING, "refused 1"
+        yield f"second cut to {size} bytes", NOTHING, EXAMPLE[:size], "refused 1"
+    yield "cut first that the second would complete", EXAMPLE[:-1], b"\xff" + NOTHING, "refused 1"
+    for number, bad in BAD.items():
+        yield f"first refused by {number}", bad, NOTHING, f"refused {number}"
+        yield f"second refused by {number}", EXAMPLE, bad, f"refused {number}"
+        yield f"first refused by {number}, second by another", bad, BAD[number % 7 + 1], f"refused {number}"
+        yield f"bytes behind the first, second refused by {number}", EXAMPLE + b"\0", bad, f"refused {number}"
+    yield "bytes behind the first", EXAMPLE + b"\0", NOTHING, "refused 12"
+    yield "bytes behind the second", EXAMPLE, NOTHING + b"\0", "refused 12"
+    yield "bytes behind both", EXAMPLE + b"Q", NOTHING + b"C", "refused 12"
+    yield "a record behind the first", EXAMPLE + NOTHING, NOTHING, "refused 12"
+    yield "12 before 8", record(2, []) + b"\0", NOTHING, "refused 12"
+    yield "12 before 9", record(16, ["H 0"] * 49) + b"\0", record(16, []), "refused 12"
+    yield "8", record(2, []), NOTHING, "refused 8"
+    yield "9", record(16, ["H 0"] * 49), record(16, []), "refused 9"
+
+
+def long_cases():
+    """The same at the longest records and beyond."""
+    yield "512 gates both", FULL, FULL, "equal 0 0 0 0 0 0 0"
+    yield "512 gates first", FULL, NOTHING, "equal 0 0 0 0 0 0 0"
+    yield "512 gates second", NOTHING, FULL, "equal 0 0 0 0 0 0 0"
+    yield "1,542 bytes first", FULL + b"\0", FULL, "refused 12"
+    yield "1,542 bytes second", FULL, FULL + b"\0", "refused 12"
+    yield "1,540 bytes first", FULL[:-1], FULL, "refused 1"
+    yield "1,540 bytes second", FULL, FULL[:-1], "refused 1"
+    yield "a megabyte behind the first", FULL + b"Q" * 1000000, FULL, "refused 12"
+    yield "a megabyte behind the second", NOTHING, NOTHING + b"Q" * 1000000, "refused 12"
+    yield "a megabyte of zeros", bytes(1000000), NOTHING, "refused 2"
+
+
+def stream_cases():
+    """(label, standard input, line)."""
+    for first, second, line in ROWS:
+        yield f"row {line}", first + second, line
+    yield "nothing", b"", "refused 1"
+    yield "one record", EXAMPLE, "refused 1"
+    yield "cut second", EXAMPLE + NOTHING[:4], "refused 1"
+    yield "a byte behind", EXAMPLE + NOTHING + b"\0", "refused 12"
+    yield "12 before 8", record(2, []) + NOTHING + b"\0", "refused 12"
+    yield "8", record(2, []) + NOTHING, "refused 8"
+    yield "3,082 bytes", FULL + FULL, "equal 0 0 0 0 0 0 0"
+    yield "3,083 bytes", FULL + FULL + b"\0", "refused 12"
+    yield "a megabyte behind", FULL + FULL + bytes(1000000), "refused 12"
+    for number, bad in BAD.items():
+        yield f"first refused by {number}", bad + (b"" if number == 1 else NOTHING), f"refused {number}"
+        yield f"second refused by {number}", EXAMPLE + bad, f"refused {number}"
+
+
+class Room:
+    """A folder of its own with files by number."""
+
+    def __init__(self, path):
+        self.path = path
+        self.made = 0
+
+    def file(self, data, name=None):
+        """A new file with these bytes."""
+        self.made += 1
+        path = os.path.join(self.path, name or f"file-{self.made}")
+        with open(path, "wb") as file:
+            file.write(data)
+        return path
+
+
+# ---- the program
+def program_answers(room):
+    """The program on every pair, as files and as one stream: the line, and nothing else."""
+    for label, first, second, line in [*border_cases(), *long_cases()]:
+        got = run([PROGRAM, room.file(first), room.file(second)])
+        check(f"program, files: {label}", got, (0, f"{line}\n".encode(), ""))
+    for label, data, line in stream_cases():
+        check(f"program, stream: {label}", run([PROGRAM], input=data), (0, f"{line}\n".encode(), ""))
+
+
+def slow_stream():
+    """One byte a write: the program waits for the end of its input."""
+    for data, line in ((EXAMPLE + NOTHING, b"equal 0 0 1 1 1 0 0\n"), (EXAMPLE + NOTHING + b"\0", b"refused 12\n")):
+        with subprocess.Popen([PROGRAM], stdin=subprocess.PIPE, stdout=subprocess.PIPE, bufsize=0) as child:
+            for byte in data:
+                child.stdin.write(bytes([byte]))
+                time.sleep(0.002)
+            check("program, stream: byte by byte", child.communicate(timeout=SECONDS)[0], line)
+
+
+def failed_in_the_middle():
+    """A read that fails after two whole records were read: the far end of a terminal that was closed."""
+    master, slave = pty.openpty()
+    tty.setraw(slave)
+    os.write(slave, EXAMPLE + NOTHING)
+    os.close(slave)
+    _, out, err = run([PROGRAM], stdin=master)
+    os.close(master)
+    check("program, stream: a read fails in the middle", out, b"")
+    holds("program, stream: a read fails in the middle, message", err == "compare: standard input: Input/output error\n", err)
+
+
+def refuses_to_read(label, words, message, **more):
+    """Nothing on standard output, and a message that says what failed."""
+    _, out, err = run(words, **more)
+    check(f"{label}: standard output", out, b"")
+    holds(f"{label}: message", err.startswith("compare: ") and message in err and err.endswith("\n"), err)
+
+
+def program_failures(room):
+    """Inputs and arguments that cannot be had, and a line that cannot be written."""
+    good, folder, gone = room.file(NOTHING), room.path, os.path.join(room.path, "gone")
+    for label, words, message in (
+        ("missing first", [gone, good], f"{gone}: No such file"),
+        ("missing second", [good, gone], f"{gone}: No such file"),
+        ("directory first", [folder, good], f"{folder}: Is a directory"),
+        ("directory second", [good, folder], f"{folder}: Is a directory"),
+        ("empty name", ["", good], "No such file"),
+        ("name of 4,095 bytes", ["a" * 4095, good], "name too long"),
+        ("name of 4,096 bytes", ["a" * 4096, good], "name too long"),
+        ("name of 5,000 bytes", [good, "a" * 5000], "name too long"),
+    ):
+        refuses_to_read(f"program, {label}", [PROGRAM, *words], message)
+    for words in ([good], [good, good, good]):
+        _, out, err = run([PROGRAM, *words])
+        check(f"program, {len(words)} arguments", (out, err[:6]), (b"", "usage:"))
+    fd = os.open(folder, os.O_RDONLY)
+    refuses_to_read("program, standard input a directory", [PROGRAM], "standard input: Is a directory", stdin=fd)
+    os.close(fd)
+    with open("/dev/full", "wb") as full:
+        _, _, err = run([PROGRAM, good, good], stdout=full)
+    check("program, /dev/full", err, "compare: standard output: No space left on device\n")
+    _, _, err = run(["sh", "-c", 'exec "$@" >&-', "sh", PROGRAM, good, good])
+    check("program, closed standard output", err, "compare: standard output: Bad file descriptor\n")
+    failed_in_the_middle()
+
+
+def writes_of(words, **more):
+    """What each write to standard output was: a pipe that keeps writes apart."""
+    reader, writer = os.pipe2(os.O_DIRECT)
+    run(words, stdout=writer, **more)
+    os.close(writer)
+    packets = []
+    while packet := os.read(reader, 65536):
+        packets.append(packet)
+    os.close(reader)
+    return packets
+
+
+def one_write(room):
+    """A line goes out in one write, from the program and from the script."""
+    two = writes_of(["sh", "-c", "echo a; echo b"])
+    check("the pipe keeps two writes apart", two, [b"a\n", b"b\n"])
+    for first, line in ((EXAMPLE, b"equal 0 0 1 1 1 0 0\n"), (EXAMPLE + b"\0", b"refused 12\n")):
+        words = [room.file(first), room.file(NOTHING)]
+        check("program, files: one write", writes_of([PROGRAM, *words]), [line])
+        check("script, files: one write", writes_of([SCRIPT, *words]), [line])
+    check("program, stream: one write", writes_of([PROGRAM], input=EXAMPLE + NOTHING), [b"equal 0 0 1 1 1 0 0\n"])
+
+
+# ---- the script
+def script_answers(room):
+    """Line and exit status of the script; the borders hold there too."""
+    cases = [case for case in border_cases() if not case[0].startswith(("first cut", "second cut"))]
+    for label, first, second, line in cases + list(long_cases())[:5]:
+        got = run([SCRIPT, room.file(first), room.file(second)])
+        check(f"script, files: {label}", got, (status_of(line), f"{line}\n".encode(), ""))
+    for label, data, line in [case for case in stream_cases() if "refused by" not in case[0]]:
+        check(f"script, stream: {label}", run([SCRIPT], input=data), (status_of(line), f"{line}\n".encode(), ""))
+    same = room.file(EXAMPLE)
+    check("script, the same file twice", run([SCRIPT, same, same])[:2], (0, b"equal 0 0 1 1 2 1 0\n"))
+
+
+def script_names(room):
+    """Names with spaces and dashes, relative names, a link to the script, and files that are no regular ones."""
+    spaced = os.path.join(room.path, "two words")
+    os.mkdir(spaced)
+    other = Room(spaced)
+    other.file(EXAMPLE, "a  b")
+    other.file(NOTHING, "-h")
+    want = (0, b"equal 0 0 1 1 1 0 0\n", "")
+    check("script, names with spaces and a dash", run([SCRIPT, "--", "a  b", "-h"], cwd=spaced), want)
+    check("script, a dash in the middle of a path", run([SCRIPT, "a  b", "./-h"], cwd=spaced), want)
+    check("script, a dash without --", run([SCRIPT, "a  b", "-x"], cwd=spaced)[:2], (64, b""))
+    check("script, a relative path", run([SCRIPT, "two words/a  b", os.path.join(spaced, "-h")], cwd=room.path), want)
+    link = os.path.join(room.path, "link to compare")
+    os.symlink(SCRIPT, link)
+    check("script, by a link", run([link, "a  b", "./-h"], cwd=spaced), want)
+    words = f"'{SCRIPT}' <(cat 'a  b') <(cat ./-h)"
+    check("script, pipes as files", run(["bash", "-c", words], cwd=spaced), want)
+
+
+def script_usage(room):
+    """Help, bad usage and a terminal."""
+    good = room.file(NOTHING)
+    for option in ("-h", "--help"):
+        status, out, err = run([SCRIPT, option])
+        check(f"script {option}", (status, err), (0, ""))
+        for number in (0, 1, 2, 3, 64, 70, 74):
+            holds(f"script {option} names {number}", re.search(rf"^ +{number}  ", out.decode(), re.M), out)
+    for words in ([good], [good, good, good], ["--unknown", good], ["-", good], [good, "--x"], ["--", good]):
+        status, out, err = run([SCRIPT, *words])
+        check(f"script, bad usage {words}", (status, out), (64, b""))
+        holds(f"script, bad usage {words}, message", err.startswith("compare: ") and "usage:" in err, err)
+    master, slave = pty.openpty()
+    status, out, err = run([SCRIPT], stdin=slave)
+    os.close(slave)
+    os.close(master)
+    check("script, no names at a terminal", (status, out, "usage:" in err), (64, b"", True))
+
+
+def script_failures(room):
+    """Exit status 74: inputs that cannot be read and lines that cannot be written."""
+    good, gone = room.file(NOTHING), os.path.join(room.path, "gone")
+    for label, words in (("missing", [gone, good]), ("directory", [good, room.path]), ("empty name", ["", good])):
+        status, out, err = run([SCRIPT, *words])
+        check(f"script, {label}", (status, out, err[:9]), (74, b"", "compare: "))
+    status, out, err = run([SCRIPT, "a" * 4096, good])
+    check("script, long name", (status, out, err[:9]), (74, b"", "compare: "))
+    fd = os.open(room.path, os.O_RDONLY)
+    check("script, standard input a directory", run([SCRIPT], stdin=fd)[:2], (74, b""))
+    os.close(fd)
+    for words in ([good, good], ["--help"]):
+        with open("/dev/full", "wb") as full:
+            status, _, err = run([SCRIPT, *words], stdout=full)
+        check(f"script, /dev/full {words[-1]}", (status, err[:9]), (74, "compare: "))
+        closed = ["sh", "-c", 'exec "$@" >&-', "sh", SCRIPT, *words]
+        status, _, err = run(closed)
+        check(f"script, closed standard output {words[-1]}", (status, err[:9]), (74, "compare: "))
+        reader, writer = os.pipe()
+        os.close(reader)
+        check(f"script, nobody reads {words[-1]}", run([SCRIPT, *words], stdout=writer)[0], 74)
+        os.close(writer)
+
+
+def closed_descriptors(room):
+    """Standard input, output and error closed, in every mixture: never a hang, never a line that is no answer."""
+    good, gone = room.file(NOTHING), os.path.join(room.path, "gone")
+    for closed in ("<&-", "2>&-", "<&- 2>&-"):
+        words = ["sh", "-c", f'exec "$@" {closed}', "sh", SCRIPT]
+        check(f"script, {closed}", run([*words, good, good])[:2], (0, b"equal 0 0 0 0 0 0 0\n"))
+        check(f"script, {closed}, missing file", run([*words, gone, good])[:2], (74, b""))
+        check(f"script, {closed}, one name", run([*words, good])[:2], (64, b""))
+        want = (74, b"") if "<" in closed else (3, b"refused 1\n")
+        check(f"script, {closed}, no names", run(words)[:2], want)
+    for closed in (">&-", "<&- >&-", ">&- 2>&-", "<&- >&- 2>&-"):
+        words = ["sh", "-c", f'exec "$@" {closed}', "sh", SCRIPT]
+        for names in ([good, good], [gone, good], []):
+            check(f"script, {closed}, {len(names)} names", run([*words, *names])[:2], (74, b""))
+
+
+def unreadable(room):
+    """A file that may not be read, as a user who is not root."""
+    good, secret = room.file(NOTHING), room.file(NOTHING)
+    os.chmod(secret, 0)
+    more = {}
+    if os.geteuid() == 0:
+        os.chmod(room.path, 0o755)
+        more = {"user": NOBODY, "group": NOBODY, "extra_groups": []}
+    try:
+        probe = run([PROGRAM, good, good], **more)[1]
+    except OSError:
+        probe = b""
+    if probe != b"equal 0 0 0 0 0 0 0\n":
+        print("skipped: a file that may not be read (nobody cannot run the program here)")
+        return
+    refuses_to_read("program, unreadable", [PROGRAM, secret, good], f"{secret}: Permission denied", **more)
+    status, out, err = run([SCRIPT, good, secret], **more)
+    check("script, unreadable", (status, out, secret in err), (74, b"", True))
+
+
+# ---- what the script builds, and when
+FAKE = """#!/bin/sh
+# Stands in for rt: counts its runs, and makes the program a copy of one that is built.
+here=$(dirname "$0")
+if [ "$1" = version ]; then cat "$here/version"; exit 0; fi
+cat >/dev/null
+echo run >>"$here/runs"
+echo 'rt: first_crate proved (1 s)'
+echo 'a line that nobody needs'
+echo 'rt: second_crate proved (unchanged since it was last proved)'
+sleep "$(cat "$here/seconds")"
+if [ -e "$here/fail" ]; then echo 'rt: third_crate NOT PROVED (exit 1, 1 s)'; exit 1; fi
+mkdir -p target/bin
+cp "$here/program" target/bin/compare
+echo 'rt: ok, 2 crates proved'
+"""
+
+
+class Copy:
+    """The script beside a few sources, with a stand-in for rt that can be taken away."""
+
+    def __init__(self, path):
+        self.root, self.tools = os.path.join(path, "the root"), os.path.join(path, "tools")
+        os.makedirs(os.path.join(self.root, "crates", "a"))
+        os.mkdir(self.tools)
+        shutil.copy(SCRIPT, self.root)
+        self.put("crates.txt", "a:\n")
+        self.put("crates/a/lib.rt", "// a\n")
+        shutil.copy(PROGRAM, os.path.join(self.tools, "program"))
+        for name, text in (("version", "kit 1\n"), ("seconds", "0\n"), ("runs", ""), ("rt", FAKE)):
+            self.put(os.path.join(self.tools, name), text)
+        os.chmod(os.path.join(self.tools, "rt"), 0o755)
+        self.bare = ":".join(p for p in os.environ["PATH"].split(":") if not os.path.exists(os.path.join(p, "rt")))
+        self.files = [os.path.join(path, "first"), os.path.join(path, "second")]
+        for name, data in zip(self.files, (EXAMPLE, NOTHING)):
+            with open(name, "wb") as file:
+                file.write(data)
+
+    def put(self, name, text):
+        """A file of the root, or anywhere by its whole name."""
+        with open(os.path.join(self.root, name), "w", encoding="utf-8") as file:
+            file.write(text)
+
+    def runs(self):
+        """How often the stand-in was asked to build."""
+        with open(os.path.join(self.tools, "runs"), encoding="utf-8") as file:
+            return len(file.readlines())
+
+    def words(self):
+        """The command."""
+        return [os.path.join(self.root, "compare"), *self.files]
+
+    def env(self, tool=True):
+        """The environment, with rt or without."""
+        return dict(os.environ, PATH=f"{self.tools}:{self.bare}" if tool else self.bare)
+
+    def compare(self, label, runs, tool=True):
+        """The comparison gives its line, and the stand-in has been run so often."""
+        status, out, err = run(self.words(), env=self.env(tool))
+        check(f"build, {label}", (status, out, self.runs()), (0, b"equal 0 0 1 1 1 0 0\n", runs))
+        return err
+
+
+def built_when_needed(copy):
+    """The prover runs where the program is not that of these sources, and only then."""
+    status, out, err = run(copy.words(), env=copy.env(tool=False))
+    check("build, no rt and nothing built", (status, out, "rt" in err, err[:9]), (70, b"", True, "compare: "))
+    err = copy.compare("the first time", 1)
+    holds("build, progress", "compare: first_crate proved (1 s)\n" in err, err)
+    holds("build, no noise", "nobody needs" not in err and "unchanged" not in err, err)
+    check("build, silent the second time", copy.compare("the second time", 1), "")
+    check("build, no rt but built", copy.compare("no rt but built", 1, tool=False), "")
+    copy.put("crates/a/lib.rt", "// b\n")
+    copy.compare("a changed file", 2)
+    copy.put("crates/a/new.antt", "")
+    copy.compare("a new file", 3)
+    copy.put("crates.txt", "a: io\n")
+    copy.compare("a changed list of crates", 4)
+    os.rename(os.path.join(copy.root, "crates/a/new.antt"), os.path.join(copy.root, "crates/a/other.antt"))
+    copy.compare("a renamed file", 5)
+    os.remove(os.path.join(copy.root, "target/bin/compare"))
+    copy.compare("a stamp without the program", 6)
+    with open(os.path.join(copy.root, "target/bin/compare"), "ab") as file:
+        file.write(b"\0")
+    copy.compare("another program file", 7)
+    copy.put(os.path.join(copy.tools, "version"), "kit 2\n")
+    copy.compare("another kit", 8)
+    copy.compare("nothing changed", 8)
+
+
+def builds_that_fail(copy):
+    """A failed proof, sources that change meanwhile, and rt gone: 70, and never a line."""
+    copy.put(os.path.join(copy.tools, "fail"), "")
+    copy.put("crates/a/lib.rt", "// c\n")
+    for _ in range(2):
+        status, out, err = run(copy.words(), env=copy.env())
+        check("build, a failed proof", (status, out, "third_crate NOT PROVED" in err), (70, b"", True))
+    status, out, err = run(copy.words(), env=copy.env(tool=False))
+    check("build, no rt after a failed proof", (status, out), (70, b""))
+    os.remove(os.path.join(copy.tools, "fail"))
+    copy.put(os.path.join(copy.tools, "seconds"), "1\n")
+    with subprocess.Popen(copy.words(), env=copy.env(), stdout=subprocess.PIPE, stderr=subprocess.PIPE) as child:
+        time.sleep(0.5)
+        copy.put("crates/a/lib.rt", "// d\n")
+        out, _ = child.communicate(timeout=SECONDS)
+    check("build, sources that change meanwhile", (child.returncode, out), (70, b""))
+
+
+def at_once(copy):
+    """Four runs at once: four lines, one build."""
+    copy.put("crates/a/lib.rt", "// e\n")
+    before = copy.runs()
+    more = {"env": copy.env(), "stdout": subprocess.PIPE, "stderr": subprocess.PIPE, "stdin": subprocess.DEVNULL}
+    children = [subprocess.Popen(copy.words(), **more) for _ in range(4)]
+    for child in children:
+        out, _ = child.communicate(timeout=SECONDS)
+        check("build, four at once", (child.returncode, out), (0, b"equal 0 0 1 1 1 0 0\n"))
+    check("build, four at once, one build", copy.runs() - before, 1)
+
+
+def builds(room):
+    """All of them, and that a build leaves standard input alone."""
+    copy = Copy(room.path)
+    built_when_needed(copy)
+    builds_that_fail(copy)
+    at_once(copy)
+    copy.put("crates/a/lib.rt", "// f\n")
+    got = run(copy.words()[:1], env=copy.env(), input=EXAMPLE + NOTHING)
+    check("build, standard input is the comparison's", got[:2], (0, b"equal 0 0 1 1 1 0 0\n"))
+    copy.put(os.path.join(copy.tools, "program"), "#!/bin/sh\necho equal 0 0\n")
+    copy.put("crates/a/lib.rt", "// g\n")
+    check("build, a line that is no result", run(copy.words(), env=copy.env())[:2], (70, b""))
+    copy.put(os.path.join(copy.tools, "program"), "#!/bin/sh\necho equal 0 0 0 0 0 0 0\nexit 1\n")
+    copy.put("crates/a/lib.rt", "// h\n")
+    check("build, a program that fails", run(copy.words(), env=copy.env())[:2], (70, b""))
+
+
+# ---- examples
+def examples():
+    """Every row of the examples' table, and each record beside its text."""
+    with open(os.path.join(ROOT, "examples", "README.md"), encoding="utf-8") as file:
+        rows = re.findall(r"^\| `\./compare (\S+) (\S+)` \| `(.*)` \| (\d+) \|$", file.read(), re.M)
+    check("examples, rows of the table", len(rows), 6)
+    for first, second, line, status in rows:
+        got = run([SCRIPT, first, second], cwd=ROOT)
+        check(f"examples, {first} {second}", got, (int(status), f"{line}\n".encode(), ""))
+    records = sorted(f for f in os.listdir(os.path.join(ROOT, "examples")) if f.endswith(".gates"))
+    check("examples, records", len(records), 8)
+    for name in records:
+        with open(os.path.join(ROOT, "examples", name), "rb") as file:
+            data = file.read()
+        status, text, err = run([GATES, "decode", "-"], input=data)
+        check(f"decode {name}", (status, err), (0, ""))
+        check(f"decode and encode {name}", run([GATES, "encode", "-", "-"], input=text), (0, data, ""))
+        source = os.path.join(ROOT, "examples", name[: -len("gates")] + "txt")
+        check(f"encode the text of {name}", run([GATES, "encode", source, "-"]), (0, data, ""))
+
+
+KINDS_TEXT = "qubits 16\nX 0\nY 1\nZ 2\nS 3\nSdg 4\nT 5\nTdg 6\nH 7\nCX 8 9\nCZ 10 11\nSWAP 15 0\n"
+KINDS_BYTES = (b"QC\x10\x0b\x00" + b"\x00\x00\xff\x01\x01\xff\x02\x02\xff\x03\x03\xff\x04\x04\xff\x05\x05\xff"
+               b"\x06\x06\xff\x07\x07\xff\x08\x08\x09\x09\x0a\x0b\x0a\x0f\x00")
+BAD_TEXTS = (
+    ("", ""), ("# only a comment\n", ""), ("H 0\n", "line 1"), ("qubits\n", "line 1"), ("qubits 0\n", "line 1"),
+    ("qubits 17\n", "line 1"), ("qubits two\n", "line 1"), ("qubits 2 3\n", "line 1"), ("qubits -1\n", "line 1"),
+    ("qubits 2\n\nHH 0\n", "line 3"), ("qubits 2\nh 0\n", "line 2"), ("qubits 2\nH\n", "line 2"), ("qubits 2\nH 0 1\n", "line 2"),
+    ("qubits 2\nH 2\n", "line 2"), ("qubits 2\nH x\n", "line 2"), ("qubits 2\nCX 0\n", "line 2"), ("qubits 2\nCX 1 1\n", "line 2"),
+    ("qubits 2\nCX 0 2\n", "line 2"), ("qubits 2\nCX 0 1 1\n", "line 2"), ("qubits 2\nH -1\n", "line 2"), ("qubits 2\nH ²\n", "line 2"),
+    ("qubits 2\nqubits 2\n", "line 2"), ("qubits 1\n" + "T 0\n" * 513, "line 514"),
+)
+
+
+def gates_texts(room):
+    """What encode takes, and what it turns down with the line's number, nothing written."""
+    check("encode, every kind", run([GATES, "encode", "-", "-"], input=KINDS_TEXT.encode()), (0, KINDS_BYTES, ""))
+    check("decode, every kind", run([GATES, "decode", "-"], input=KINDS_BYTES), (0, KINDS_TEXT.encode(), ""))
+    other = "# a list\n\n  qubits   1 # one\n\tS† 0\nT† 0#x\n"
+    check("encode, other spellings", run([GATES, "encode", "-", "-"], input=other.encode()), (0, one("S' T'"), ""))
+    check("encode, 512 gates", run([GATES, "encode", "-", "-"], input=b"qubits 1\n" + b"T 0\n" * 512), (0, FULL, ""))
+    target, kept = os.path.join(room.path, "target"), room.file(b"kept")
+    for text, where in BAD_TEXTS:
+        source = room.file(text.encode())
+        status, out, err = run([GATES, "encode", source, target])
+        check(f"encode {text[:30]!r}", (status, out, os.path.exists(target)), (1, b"", False))
+        holds(f"encode {text[:30]!r}, message", err.startswith(f"gates: {source}: {where}") and len(err) > 20, err)
+        run([GATES, "encode", source, kept])
+    with open(kept, "rb") as file:
+        check("encode, a file that stands there is kept", file.read(), b"kept")
+    check("encode, no UTF-8", run([GATES, "encode", "-", "-"], input=b"qubits 1\nH \xff\n")[:2], (1, b""))
+
+
+def gates_records(room):
+    """What decode refuses, held to the program's number for the same file; usage and files."""
+    for number, bad in [*BAD.items(), (12, EXAMPLE + b"\0")]:
+        got = run([GATES, "decode", "-", os.path.join(room.path, "text")], input=bad)
+        check(f"decode, refused {number}", got, (1, b"", f"gates: -: refused {number}\n"))
+    check("decode, nothing written", os.path.exists(os.path.join(room.path, "text")), False)
+    for words in ([], ["encode"], ["encode", "-"], ["decode"], ["decode", "a", "b", "c"], ["recode", "a", "b"]):
+        check(f"gates, bad usage {words}", run([GATES, *words])[:2], (64, b""))
+    check("gates --help", run([GATES, "--help"])[0], 0)
+    check("gates, missing file", run([GATES, "decode", os.path.join(room.path, "gone")])[:2], (74, b""))
+    with open("/dev/full", "wb") as full:
+        check("gates, /dev/full", run([GATES, "decode", "-"], input=EXAMPLE, stdout=full)[0], 74)
+    check("gates, folder as target", run([GATES, "decode", "-", room.path], input=EXAMPLE)[:2], (74, b""))
+    loader = importlib.machinery.SourceFileLoader("gates", GATES)
+    sys.dont_write_bytecode = True
+    gates = importlib.util.module_from_spec(importlib.util.spec_from_loader("gates", loader))
+    loader.exec_module(gates)
+    rng, seen = random.Random(20261116), set()
+    for _ in range(300):
+        data = bytearray(rng.choice((EXAMPLE, KINDS_BYTES, NOTHING)))
+        for _ in range(rng.randint(1, 3)):
+            data[rng.randrange(len(data))] = rng.choice((0, 1, 2, 7, 9, 10, 11, 16, 17, 0x43, 0x51, 255))
+        data = bytes(data)[: rng.randint(3, len(data) + 20)] + bytes(rng.choice((0, 0, 1)))
+        out = run([PROGRAM, room.file(data, "mutant"), room.file(NOTHING)])[1].decode().split()
+        want = int(out[1]) if out[0] == "refused" and out[1] not in ("8", "9") else 0
+        seen.add(want)
+        check(f"refusal of {data.hex()}", gates.refusal(data), want)
+    check("refusals that came up", seen, {0, 1, 2, 3, 4, 5, 6, 7, 12})
+
+
+def main():
+    """Runs everything."""
+    if not os.access(PROGRAM, os.X_OK):
+        print("front_door: the program is not built; rt check compare builds it")
+        return 1
+    status, _, err = run([SCRIPT, "--", GATES, GATES])
+    if status != 3:
+        print(f"front_door: the script does not run: {status}\n{err}")
+        return 1
+    parts = (program_answers, program_failures, one_write, script_answers, script_names, script_usage, script_failures,
+             closed_descriptors, unreadable, builds, gates_texts, gates_records)
+    for part in parts:
+        with tempfile.TemporaryDirectory() as path:
+            part(Room(path))
+    slow_stream()
+    examples()
+    print(f"front_door: {HELD['checks']} checks, {HELD['failed']} failed")
+    return 1 if HELD["failed"] else 0
+
+
+if __name__ == "__main__":
+    sys.exit(main())
