@@ -7,7 +7,6 @@
 mod lines;
 mod pairs;
 mod rows;
-mod workspaces;
 
 use crate::lines::Lines;
 use libc::STDIN_FILENO;

@@ -1,5 +1,4 @@
 // Rows of calls on a pair. The numbers say how many words and bytes of the workspaces are lent, and with what all their places begin.
-use crate::workspaces;
 use comparison::Answer;
 use comparison::Outcome;
 use row_text::are_below;
@@ -7,6 +6,7 @@ use row_text::are_numbers;
 use row_text::byte;
 use row_text::number;
 use row_text::print;
+use row_text::workspaces;
 
 // A verdict's word, by its number.
 fn verdict(number: u8) {

@@ -1,6 +1,7 @@
-// Rows of text taken apart, and what they print: parts between separators, decimal numbers, bytes in hexadecimal. Past its end a text holds
-// spaces, so that no function asks anything of its caller.
+// Rows of text taken apart, what they print, and the workspaces that they lend: parts between separators, decimal numbers, bytes in
+// hexadecimal. Past its end a text holds spaces, so that no function asks anything of its caller.
 pub mod print;
+pub mod workspaces;
 
 use std::num::wrapping_add_usize;
 

@@ -1,10 +1,10 @@
--- `calls::workspaces::bytes_seen` is safe and ends: each turn goes one place on.
+-- `row_text::workspaces::bytes_seen` is safe and ends: each turn goes one place on.
 -- Assumes nothing.
 use Prim.Native.Nat.{_-_}
 use lib.ListN.{length}
 use borrow.Author.Needs.{needs}
-use Rattle.calls.proofs.workspaces.bytes_seen.Statement.{statement}
-use Rattle.calls.proofs.workspaces.bytes_seen.Tie as tie
+use Rattle.row_text.proofs.workspaces.bytes_seen.Statement.{statement}
+use Rattle.row_text.proofs.workspaces.bytes_seen.Tie as tie
 
 abbrev Inv-loop : tie.InvT-loop
 Inv-loop bytes seed seen₀ x₀ i₀ seen x i = Unit

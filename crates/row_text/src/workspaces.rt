@@ -1,7 +1,7 @@
 // What the workspaces hold before a call and afterwards. Before, place after place holds the next number of a row that begins with the seed:
 // never 0, but for the seed 0, with which every place is 0.
-use row_text::plus;
-use row_text::print;
+use crate::plus;
+use crate::print;
 
 // The places that a comparison uses.
 const PLACES: usize = 3136;
@@ -19,7 +19,7 @@ fn byte_of(x: u64) -> u8 {
 }
 
 // Words before a call.
-pub(crate) fn fill_words(words: &mut [u64], seed: u64) {
+pub fn fill_words(words: &mut [u64], seed: u64) {
     let mut x = seed;
     let mut i = 0;
     while i < words.len() {
@@ -30,7 +30,7 @@ pub(crate) fn fill_words(words: &mut [u64], seed: u64) {
 }
 
 // Bytes before a call.
-pub(crate) fn fill_bytes(bytes: &mut [u8], seed: u64) {
+pub fn fill_bytes(bytes: &mut [u8], seed: u64) {
     let mut x = seed;
     let mut i = 0;
     while i < bytes.len() {
@@ -99,7 +99,7 @@ fn show_seen(seen: Seen) {
 }
 
 // Both workspaces afterwards.
-pub(crate) fn show(sets: &[u64], coeffs: &[u8], seed: u64) {
+pub fn show(sets: &[u64], coeffs: &[u8], seed: u64) {
     print::text(b", sets");
     show_seen(words_seen(sets, seed));
     print::text(b", coeffs");

@@ -1,11 +1,11 @@
--- `calls::workspaces::fill_words` is safe and ends: the workspace keeps its length, and each turn goes one place on.
+-- `row_text::workspaces::fill_words` is safe and ends: the workspace keeps its length, and each turn goes one place on.
 -- Assumes nothing.
 use mathlib.Core.Path.{_≡_}
 use Prim.Native.Nat.{_-_}
 use lib.ListN.{length}
 use borrow.Author.Needs.{needs}
-use Rattle.calls.proofs.workspaces.fill_words.Statement.{statement}
-use Rattle.calls.proofs.workspaces.fill_words.Tie as tie
+use Rattle.row_text.proofs.workspaces.fill_words.Statement.{statement}
+use Rattle.row_text.proofs.workspaces.fill_words.Tie as tie
 
 abbrev Inv-loop : tie.InvT-loop
 Inv-loop words₀ seed x₀ i₀ words x i = length words ≡ length words₀
