@@ -1,113 +1,94 @@
 // The phase-sum layer, building: the path sum of a pair of gate lists. Document 01, "Building the sum". The terms are put one behind the
 // other as the gates run, and merged once at the end.
 ghost use mathlib.Core.Path.{_≡_};
-ghost use Prim.Native.Nat.{ℕ, _+_, _%_, _<_, _≤_};
-ghost use mathlib.Core.List.{List, [], _∷_, _++_};
-ghost use lib.ListN.{length, getD, set};
-ghost use Rattle.record_format.specs.Gate.{Within, gateOf, raw, inverseList, one, two, Y, CZ};
-ghost use Rattle.phase_sum_meaning.specs.Parity.{of, _⊕_, complement};
+ghost use Prim.Native.Nat.{ℕ, _%_, _≤_};
+ghost use mathlib.Core.List.{List};
+ghost use lib.ListN.{length};
+ghost use Rattle.record_format.specs.Gate.{inverseList};
 ghost use Rattle.phase_sum_meaning.specs.Building.{initial, build};
-ghost use Rattle.phase_sum_terms.specs.Workspace.{held, parityOf, wiresOf, sumOf, Stored};
-ghost use Rattle.phase_sum_terms.specs.Unmerged.{gatesIn, joinedIn, phaseTerm, productTerms, appendGate, appendGates, appended, Fitting, Buildable, Shows};
-ghost use Rattle.phase_sum_terms.specs.Inner.{onH, phaseConstant, productConstant, diagonalOf, movedWires, appendPhase};
-use phase_sum_gates::controlled_z;
-use phase_sum_gates::diagonal;
-use phase_sum_gates::diagonal_of;
-use phase_sum_gates::hadamard;
-use phase_sum_gates::moved;
-use phase_sum_gates::y_gate;
+ghost use Rattle.phase_sum_terms.specs.Workspace.{slices, lent, before, after};
+ghost use Rattle.phase_sum_terms.specs.Unmerged.{gatesIn, joinedIn, appended, Fits, Leaves, RunsAll, Builds, Buildable, Shows};
+use phase_sum_gates::move_wires;
+use phase_sum_gates::moves;
+use phase_sum_gates::run_gate;
 use phase_sum_merging::canonical;
 use phase_sum_terms::Phase;
+use phase_sum_terms::Run;
 use phase_sum_terms::Sum;
-use phase_sum_terms::Wire;
 use phase_sum_terms::Wires;
 use phase_sum_terms::sets::single;
-use record_format::gate;
 use record_format::gate::inverse_kind;
 
-// What one gate does to the sum, given by its three bytes.
-pub fn run_gate(sum: Sum, kind: u8, a: u8, b: u8, sets: &mut [u64], coeffs: &mut [u8]) -> Sum
-    requires { ⌜ Fitting sum (gateOf (raw kind a b) ∷ []) (now sets) (now coeffs) ⌝ }
-    ensures { λ r. ⌜ Shows (appendGate (sum .n) (gateOf (raw kind a b)) (sumOf sum (now (sets .entry)) (now (coeffs .entry)))) (sum .n) (sum .phase .count) r (now (sets .entry)) (now (coeffs .entry)) (now (sets .exit)) (now (coeffs .exit)) ⌝ }
-{
-    let p = a as usize;
-    let q = b as usize;
-    if kind == gate::Y {
-        return y_gate(sum, p, sets, coeffs);
-    }
-    if kind == gate::H {
-        return hadamard(sum, p, sets, coeffs);
-    }
-    if kind == gate::CZ {
-        return controlled_z(sum, p, q, sets, coeffs);
-    }
-    let c = diagonal_of(kind);
-    if c != 0 {
-        return diagonal(sum, c, p, sets, coeffs);
-    }
-    let wires = sum.wires;
-    let phase = sum.phase;
-    Sum {
-        n: sum.n,
-        next: sum.next,
-        wires: moved(wires, kind, p, q),
-        phase,
-    }
-}
-
 // A whole list of gates, by its bytes, in list order.
-pub fn forwards(sum: Sum, gates: &[u8], sets: &mut [u64], coeffs: &mut [u8]) -> Sum
-    requires { ⌜ (length (now gates) % 3 ≡ 0) × Fitting sum (gatesIn (now gates)) (now sets) (now coeffs) ⌝ }
-    ensures { λ r. ⌜ Shows (appendGates (sum .n) (gatesIn (now (gates .entry))) (sumOf sum (now (sets .entry)) (now (coeffs .entry)))) (sum .n) (sum .phase .count) r (now (sets .entry)) (now (coeffs .entry)) (now (sets .exit)) (now (coeffs .exit)) ⌝ }
+pub fn forwards(
+    run: Run,
+    gates: &[u8],
+    ws: &mut [u64],
+    fs: &mut [bool],
+    sets: &mut [u64],
+    coeffs: &mut [u8],
+) -> Run
+    requires { ⌜ (length (now gates) % 3 ≡ 0) × Fits run (gatesIn (now gates)) (lent ws fs sets coeffs) ⌝ }
+    ensures { λ r. ⌜ RunsAll (gatesIn (now (gates .entry))) run r (before ws fs sets coeffs) (after ws fs sets coeffs) ⌝ }
 {
-    let mut now = sum;
+    let mut now = run;
     let mut i = 0;
     while i < gates.len() {
-        now = run_gate(now, gates[i], gates[i + 1], gates[i + 2], sets, coeffs);
+        let kind = gates[i];
+        let a = gates[i + 1];
+        let b = gates[i + 2];
         i += 3;
+        if moves(kind) {
+            move_wires(kind, a, b, ws, fs);
+            continue;
+        }
+        now = run_gate(now, kind, a, b, ws, fs, sets, coeffs);
     }
     now
 }
 
-// A whole list of gates, by its bytes, backwards and each inverted.
-pub fn backwards(sum: Sum, gates: &[u8], sets: &mut [u64], coeffs: &mut [u8]) -> Sum
-    requires { ⌜ (length (now gates) % 3 ≡ 0) × Fitting sum (inverseList (gatesIn (now gates))) (now sets) (now coeffs) ⌝ }
-    ensures { λ r. ⌜ Shows (appendGates (sum .n) (inverseList (gatesIn (now (gates .entry)))) (sumOf sum (now (sets .entry)) (now (coeffs .entry)))) (sum .n) (sum .phase .count) r (now (sets .entry)) (now (coeffs .entry)) (now (sets .exit)) (now (coeffs .exit)) ⌝ }
+// A whole list of gates, by its bytes, backwards and each inverted. X, CX and SWAP are their own inverses.
+pub fn backwards(
+    run: Run,
+    gates: &[u8],
+    ws: &mut [u64],
+    fs: &mut [bool],
+    sets: &mut [u64],
+    coeffs: &mut [u8],
+) -> Run
+    requires { ⌜ (length (now gates) % 3 ≡ 0) × Fits run (inverseList (gatesIn (now gates))) (lent ws fs sets coeffs) ⌝ }
+    ensures { λ r. ⌜ RunsAll (inverseList (gatesIn (now (gates .entry)))) run r (before ws fs sets coeffs) (after ws fs sets coeffs) ⌝ }
 {
-    let mut now = sum;
+    let mut now = run;
     let mut i = gates.len();
     while i > 0 {
         i -= 3;
-        now = run_gate(
-            now,
-            inverse_kind(gates[i]),
-            gates[i + 1],
-            gates[i + 2],
-            sets,
-            coeffs,
-        );
+        let kind = gates[i];
+        let a = gates[i + 1];
+        let b = gates[i + 2];
+        if moves(kind) {
+            move_wires(kind, a, b, ws, fs);
+            continue;
+        }
+        now = run_gate(now, inverse_kind(kind), a, b, ws, fs, sets, coeffs);
     }
     now
 }
 
-// The sum of no gates on n qubits: no phase yet, and each wire its own input.
-pub fn start(n: usize) -> Sum
-    requires { ⌜ n ≤ 16 ⌝ }
-    ensures { λ r. ⌜ ((ss cs : List ℕ) → Shows (initial 0 n) n 0 r ss cs ss cs) ⌝ }
+// The sum of no gates, on as many qubits as there are wires: no phase yet, and each wire its own input.
+fn start(ws: &mut [u64], fs: &mut [bool]) -> Run
+    requires { ⌜ (length (now ws) ≤ 16) × (length (now fs) ≡ length (now ws)) ⌝ }
+    ensures { λ r. ⌜ ((ss cs : List ℕ) → Leaves (initial 0 (length (now (ws .entry)))) 0 r (slices (now (ws .entry)) (now (fs .entry)) ss cs) (slices (now (ws .exit)) (now (fs .exit)) ss cs)) ⌝ }
 {
-    let mut wires = Wires {
-        sets: [0; 16],
-        flips: [false; 16],
-    };
+    let n = ws.len();
     let mut q = 0;
     while q < n {
-        wires.sets[q] = single(q as u32);
+        ws[q] = single(q as u32);
+        fs[q] = false;
         q += 1;
     }
-    Sum {
-        n,
+    Run {
         next: n as u32,
-        wires,
         phase: Phase {
             constant: 0,
             count: 0,
@@ -116,22 +97,47 @@ pub fn start(n: usize) -> Sum
 }
 
 // The sum of the first list followed by the second inverted, both by their bytes, merged.
-pub fn build(n: usize, first: &[u8], second: &[u8], sets: &mut [u64], coeffs: &mut [u8]) -> Sum
-    requires { ⌜ Buildable n (now first) (now second) (now sets) (now coeffs) ⌝ }
-    ensures { λ r. ⌜ Shows (build 0 n (joinedIn (now (first .entry)) (now (second .entry)))) n (appended n (joinedIn (now (first .entry)) (now (second .entry)))) r (now (sets .entry)) (now (coeffs .entry)) (now (sets .exit)) (now (coeffs .exit)) ⌝ }
+pub fn build_in(
+    first: &[u8],
+    second: &[u8],
+    ws: &mut [u64],
+    fs: &mut [bool],
+    sets: &mut [u64],
+    coeffs: &mut [u8],
+) -> Run
+    requires { ⌜ (length (now fs) ≡ length (now ws)) × Buildable (length (now ws)) (now first) (now second) (now sets) (now coeffs) ⌝ }
+    ensures { λ r. ⌜ Builds (joinedIn (now (first .entry)) (now (second .entry))) r (before ws fs sets coeffs) (after ws fs sets coeffs) ⌝ }
 {
-    let half = forwards(start(n), first, sets, coeffs);
-    let whole = backwards(half, second, sets, coeffs);
-    let wires = whole.wires;
+    let begun = start(ws, fs);
+    let half = forwards(begun, first, ws, fs, sets, coeffs);
+    let whole = backwards(half, second, ws, fs, sets, coeffs);
     let phase = whole.phase;
     let count = phase.count;
-    Sum {
-        n,
+    Run {
         next: whole.next,
-        wires,
         phase: Phase {
             constant: phase.constant,
             count: canonical(sets, coeffs, count),
         },
+    }
+}
+
+// The same with wires of its own, handed on by value.
+pub fn build(n: usize, first: &[u8], second: &[u8], sets: &mut [u64], coeffs: &mut [u8]) -> Sum
+    requires { ⌜ Buildable n (now first) (now second) (now sets) (now coeffs) ⌝ }
+    ensures { λ r. ⌜ Shows (build 0 n (joinedIn (now (first .entry)) (now (second .entry)))) n (appended n (joinedIn (now (first .entry)) (now (second .entry)))) r (now (sets .entry)) (now (coeffs .entry)) (now (sets .exit)) (now (coeffs .exit)) ⌝ }
+{
+    let mut ws = [0u64; 16];
+    let mut fs = [false; 16];
+    let run = build_in(first, second, &mut ws[..n], &mut fs[..n], sets, coeffs);
+    let phase = run.phase;
+    Sum {
+        n,
+        next: run.next,
+        wires: Wires {
+            sets: ws,
+            flips: fs,
+        },
+        phase,
     }
 }

@@ -1,17 +1,18 @@
-// The phase-sum layer, gates: what one gate does to the wires and the terms. Document 01, "Building the sum". The terms are put one behind
-// the other.
+// The phase-sum layer, gates: what one gate does to the wires and the terms. Document 01, "Building the sum". The wires are two lent slices,
+// sets and constant bits, one place a qubit, changed in place; the terms are put one behind the other.
 ghost use mathlib.Core.Path.{_≡_};
-ghost use Prim.Native.Nat.{ℕ, _+_, _%_, _<_, _≤_};
-ghost use mathlib.Core.List.{List, [], _∷_, _++_};
+ghost use Prim.Native.Nat.{ℕ, _+_, _<_, _≤_};
+ghost use mathlib.Core.Bool.{true, false};
+ghost use mathlib.Core.List.{[], _∷_, _++_};
 ghost use lib.ListN.{length, getD, set};
-ghost use Rattle.record_format.specs.Gate.{Within, gateOf, raw, inverseList, one, two, Y, CZ};
-ghost use Rattle.phase_sum_meaning.specs.Parity.{of, _⊕_, complement};
-ghost use Rattle.phase_sum_meaning.specs.Building.{initial, build};
-ghost use Rattle.phase_sum_terms.specs.Workspace.{held, parityOf, wiresOf, sumOf, Stored};
-ghost use Rattle.phase_sum_terms.specs.Unmerged.{gatesIn, joinedIn, phaseTerm, productTerms, appendGate, appendGates, appended, Fitting, Buildable, Shows};
-ghost use Rattle.phase_sum_terms.specs.Inner.{onH, phaseConstant, productConstant, diagonalOf, movedWires, appendPhase};
+ghost use Rattle.record_format.specs.Gate.{Within, gateOf, raw, one, two, X, Y, CX, CZ, SWAP};
+ghost use Rattle.phase_sum_meaning.specs.Parity.{of, _⊕_};
+ghost use Rattle.phase_sum_meaning.specs.Building.{PathSum};
+ghost use Rattle.phase_sum_terms.specs.Workspace.{held, parityOf, wiresOf, zipWires, Stored, lent, before, after};
+ghost use Rattle.phase_sum_terms.specs.Unmerged.{phaseTerm, productTerms, appendGate, sumIn, Fits, Leaves, Runs, movesOnly, Moves};
+ghost use Rattle.phase_sum_terms.specs.Inner.{onH, phaseConstant, productConstant, appendPhase};
 use phase_sum_terms::Phase;
-use phase_sum_terms::Sum;
+use phase_sum_terms::Run;
 use phase_sum_terms::Wire;
 use phase_sum_terms::Wires;
 use phase_sum_terms::sets::exclusive_or;
@@ -30,17 +31,6 @@ pub fn wire(wires: Wires, q: usize) -> Wire
         set: wires.sets[q],
         flipped: wires.flips[q],
     }
-}
-
-// The wires with wire q set anew.
-pub fn with_wire(wires: Wires, q: usize, w: Wire) -> Wires
-    requires { ⌜ q < 16 ⌝ }
-    ensures { λ r. ⌜ ((n : ℕ) → wiresOf n r ≡ set (wiresOf n wires) q (parityOf w)) ⌝ }
-{
-    let mut out = wires;
-    out.sets[q] = w.set;
-    out.flips[q] = w.flipped;
-    out
 }
 
 // The exclusive or of two wires.
@@ -83,83 +73,138 @@ pub fn put_product(phase: Phase, u: Wire, v: Wire, sets: &mut [u64], coeffs: &mu
     put_phase(twice, 6, both(u, v), sets, coeffs)
 }
 
-// X: wire q complemented.
-pub fn flip_wire(wires: Wires, q: usize) -> Wires
-    requires { ⌜ q < 16 ⌝ }
-    ensures { λ r. ⌜ ((n : ℕ) → n ≤ 16 → q < n → wiresOf n r ≡ set (wiresOf n wires) q (complement (getD (wiresOf n wires) q (of 0)))) ⌝ }
+// Wire q.
+pub fn wire_at(ws: &[u64], fs: &[bool], q: usize) -> Wire
+    requires { ⌜ (q < length (now ws)) × (q < length (now fs)) ⌝ }
+    ensures { λ r. ⌜ parityOf r ≡ getD (zipWires (now (ws .entry)) (now (fs .entry))) q (of 0) ⌝ }
 {
-    let w = wire(wires, q);
-    with_wire(
-        wires,
-        q,
-        Wire {
-            set: w.set,
-            flipped: !w.flipped,
-        },
-    )
+    Wire {
+        set: ws[q],
+        flipped: fs[q],
+    }
+}
+
+// Wire q set anew.
+pub fn set_wire(ws: &mut [u64], fs: &mut [bool], q: usize, w: Wire)
+    requires { ⌜ (q < length (now ws)) × (q < length (now fs)) ⌝ }
+    ensures { λ _. ⌜ zipWires (now (ws .exit)) (now (fs .exit)) ≡ set (zipWires (now (ws .entry)) (now (fs .entry))) q (parityOf w) ⌝ }
+{
+    ws[q] = w.set;
+    fs[q] = w.flipped;
+}
+
+// X: wire q complemented.
+fn flip_wire(ws: &[u64], fs: &mut [bool], q: usize)
+    requires { ⌜ (q < length (now ws)) × (q < length (now fs)) ⌝ }
+    ensures { λ _. ⌜ Moves (one X q) (zipWires (now (ws .entry)) (now (fs .entry))) (zipWires (now (ws .entry)) (now (fs .exit))) ⌝ }
+{
+    fs[q] = !fs[q];
 }
 
 // CX: the control added to the target.
-pub fn add_wire(wires: Wires, control: usize, target: usize) -> Wires
-    requires { ⌜ (control < 16) × (target < 16) ⌝ }
-    ensures { λ r. ⌜ ((n : ℕ) → n ≤ 16 → control < n → target < n → wiresOf n r ≡ set (wiresOf n wires) target (getD (wiresOf n wires) target (of 0) ⊕ getD (wiresOf n wires) control (of 0))) ⌝ }
+fn add_wire(ws: &mut [u64], fs: &mut [bool], control: usize, target: usize)
+    requires { ⌜ (control < length (now ws)) × (target < length (now ws)) × (length (now fs) ≡ length (now ws)) ⌝ }
+    ensures { λ _. ⌜ Moves (two CX control target) (zipWires (now (ws .entry)) (now (fs .entry))) (zipWires (now (ws .exit)) (now (fs .exit))) ⌝ }
 {
-    with_wire(
-        wires,
-        target,
-        both(wire(wires, target), wire(wires, control)),
-    )
+    ws[target] = exclusive_or(ws[target], ws[control]);
+    fs[target] = fs[target] != fs[control];
 }
 
 // SWAP: two wires exchanged.
-pub fn swap_wires(wires: Wires, a: usize, b: usize) -> Wires
-    requires { ⌜ (a < 16) × (b < 16) ⌝ }
-    ensures { λ r. ⌜ ((n : ℕ) → n ≤ 16 → a < n → b < n → wiresOf n r ≡ set (set (wiresOf n wires) a (getD (wiresOf n wires) b (of 0))) b (getD (wiresOf n wires) a (of 0))) ⌝ }
+fn swap_wires(ws: &mut [u64], fs: &mut [bool], a: usize, b: usize)
+    requires { ⌜ (a < length (now ws)) × (b < length (now ws)) × (length (now fs) ≡ length (now ws)) ⌝ }
+    ensures { λ _. ⌜ Moves (two SWAP a b) (zipWires (now (ws .entry)) (now (fs .entry))) (zipWires (now (ws .exit)) (now (fs .exit))) ⌝ }
 {
-    with_wire(with_wire(wires, a, wire(wires, b)), b, wire(wires, a))
+    let set = ws[a];
+    let flip = fs[a];
+    ws[a] = ws[b];
+    fs[a] = fs[b];
+    ws[b] = set;
+    fs[b] = flip;
 }
 
-// The coefficient of Z, S, T and the inverses of S and T; 0 for another kind.
-pub fn diagonal_of(kind: u8) -> u8
-    ensures { λ r. ⌜ ((a b : ℕ) → r ≡ diagonalOf (gateOf (raw kind a b))) ⌝ }
+// Does the gate only move wires: X, CX, SWAP?
+pub fn moves(kind: u8) -> bool
+    ensures { λ r. ⌜ ((a b : ℕ) → r ≡ movesOnly (gateOf (raw kind a b))) ⌝ }
+{
+    if kind == gate::X {
+        return true;
+    }
+    if kind == gate::CX {
+        return true;
+    }
+    kind > gate::CZ
+}
+
+// A gate that only moves wires, given by its three bytes.
+pub fn move_wires(kind: u8, a: u8, b: u8, ws: &mut [u64], fs: &mut [bool])
+    requires { ⌜ (movesOnly (gateOf (raw kind a b)) ≡ true) × Within (length (now ws)) (gateOf (raw kind a b)) × (length (now fs) ≡ length (now ws)) ⌝ }
+    ensures { λ _. ⌜ Moves (gateOf (raw kind a b)) (zipWires (now (ws .entry)) (now (fs .entry))) (zipWires (now (ws .exit)) (now (fs .exit))) ⌝ }
+{
+    let p = a as usize;
+    let q = b as usize;
+    if kind == gate::X {
+        flip_wire(ws, fs, p);
+        return;
+    }
+    if kind == gate::CX {
+        add_wire(ws, fs, p, q);
+        return;
+    }
+    swap_wires(ws, fs, p, q);
+}
+
+// The coefficient of Z, S, T and the inverses of S and T.
+fn diagonal_of(kind: u8) -> u8
+    requires { ⌜ (1 < kind) × (kind < 7) ⌝ }
+    ensures { λ r. ⌜ ((n a b : ℕ) (s : PathSum) → appendGate n (gateOf (raw kind a b)) s ≡ appendPhase r a s) ⌝ }
 {
     match kind {
         gate::Z => 4,
         gate::S => 2,
         gate::S_INVERSE => 6,
         gate::T => 1,
-        gate::T_INVERSE => 7,
-        _ => 0,
+        _ => 7,
     }
 }
 
 // A phase c on wire q.
-pub fn diagonal(sum: Sum, c: u8, q: usize, sets: &mut [u64], coeffs: &mut [u8]) -> Sum
-    requires { ⌜ (q < sum .n) × (sum .n ≤ 16) × (sum .n ≤ sum .next) × (sum .phase .count < length (now sets)) × (sum .phase .count < length (now coeffs)) ⌝ }
-    ensures { λ r. ⌜ Shows (appendPhase c q (sumOf sum (now (sets .entry)) (now (coeffs .entry)))) (sum .n) (sum .phase .count) r (now (sets .entry)) (now (coeffs .entry)) (now (sets .exit)) (now (coeffs .exit)) ⌝ }
+fn diagonal(
+    run: Run,
+    c: u8,
+    q: usize,
+    ws: &[u64],
+    fs: &[bool],
+    sets: &mut [u64],
+    coeffs: &mut [u8],
+) -> Run
+    requires { ⌜ (q < length (now ws)) × (length (now fs) ≡ length (now ws)) × (length (now ws) ≤ run .next) × (run .phase .count < length (now sets)) × (run .phase .count < length (now coeffs)) ⌝ }
+    ensures { λ r. ⌜ Leaves (appendPhase c q (sumIn run (before ws fs sets coeffs))) (run .phase .count) r (before ws fs sets coeffs) (after ws fs sets coeffs) ⌝ }
 {
-    let wires = sum.wires;
-    let phase = sum.phase;
-    Sum {
-        n: sum.n,
-        next: sum.next,
-        wires,
-        phase: put_phase(phase, c, wire(wires, q), sets, coeffs),
+    let phase = run.phase;
+    Run {
+        next: run.next,
+        phase: put_phase(phase, c, wire_at(ws, fs, q), sets, coeffs),
     }
 }
 
 // Y: Z, then X and the factor ω².
-pub fn y_gate(sum: Sum, q: usize, sets: &mut [u64], coeffs: &mut [u8]) -> Sum
-    requires { ⌜ Fitting sum (one Y q ∷ []) (now sets) (now coeffs) ⌝ }
-    ensures { λ r. ⌜ Shows (appendGate (sum .n) (one Y q) (sumOf sum (now (sets .entry)) (now (coeffs .entry)))) (sum .n) (sum .phase .count) r (now (sets .entry)) (now (coeffs .entry)) (now (sets .exit)) (now (coeffs .exit)) ⌝ }
+fn y_gate(
+    run: Run,
+    q: usize,
+    ws: &[u64],
+    fs: &mut [bool],
+    sets: &mut [u64],
+    coeffs: &mut [u8],
+) -> Run
+    requires { ⌜ Fits run (one Y q ∷ []) (lent ws fs sets coeffs) ⌝ }
+    ensures { λ r. ⌜ Runs (one Y q) run r (before ws fs sets coeffs) (after ws fs sets coeffs) ⌝ }
 {
-    let wires = sum.wires;
-    let old = sum.phase;
-    let phase = put_phase(old, 4, wire(wires, q), sets, coeffs);
-    Sum {
-        n: sum.n,
-        next: sum.next,
-        wires: flip_wire(wires, q),
+    let old = run.phase;
+    let phase = put_phase(old, 4, wire_at(ws, fs, q), sets, coeffs);
+    flip_wire(ws, fs, q);
+    Run {
+        next: run.next,
         phase: Phase {
             constant: add(phase.constant, 2),
             count: phase.count,
@@ -168,53 +213,75 @@ pub fn y_gate(sum: Sum, q: usize, sets: &mut [u64], coeffs: &mut [u8]) -> Sum
 }
 
 // H: the next path variable comes in, and 4 on its product with the old wire.
-pub fn hadamard(sum: Sum, q: usize, sets: &mut [u64], coeffs: &mut [u8]) -> Sum
-    requires { ⌜ Fitting sum (onH q ∷ []) (now sets) (now coeffs) ⌝ }
-    ensures { λ r. ⌜ Shows (appendGate (sum .n) (onH q) (sumOf sum (now (sets .entry)) (now (coeffs .entry)))) (sum .n) (sum .phase .count) r (now (sets .entry)) (now (coeffs .entry)) (now (sets .exit)) (now (coeffs .exit)) ⌝ }
+fn hadamard(
+    run: Run,
+    q: usize,
+    ws: &mut [u64],
+    fs: &mut [bool],
+    sets: &mut [u64],
+    coeffs: &mut [u8],
+) -> Run
+    requires { ⌜ Fits run (onH q ∷ []) (lent ws fs sets coeffs) ⌝ }
+    ensures { λ r. ⌜ Runs (onH q) run r (before ws fs sets coeffs) (after ws fs sets coeffs) ⌝ }
 {
-    let wires = sum.wires;
-    let phase = sum.phase;
-    let next = sum.next;
+    let old = run.phase;
+    let next = run.next;
     let new = Wire {
         set: single(next),
         flipped: false,
     };
-    Sum {
-        n: sum.n,
+    let phase = put_product(old, wire_at(ws, fs, q), new, sets, coeffs);
+    set_wire(ws, fs, q, new);
+    Run {
         next: next + 1,
-        wires: with_wire(wires, q, new),
-        phase: put_product(phase, wire(wires, q), new, sets, coeffs),
+        phase,
     }
 }
 
 // CZ: 4 on the product of two wires.
-pub fn controlled_z(sum: Sum, a: usize, b: usize, sets: &mut [u64], coeffs: &mut [u8]) -> Sum
-    requires { ⌜ Fitting sum (two CZ a b ∷ []) (now sets) (now coeffs) ⌝ }
-    ensures { λ r. ⌜ Shows (appendGate (sum .n) (two CZ a b) (sumOf sum (now (sets .entry)) (now (coeffs .entry)))) (sum .n) (sum .phase .count) r (now (sets .entry)) (now (coeffs .entry)) (now (sets .exit)) (now (coeffs .exit)) ⌝ }
+fn controlled_z(
+    run: Run,
+    a: usize,
+    b: usize,
+    ws: &[u64],
+    fs: &[bool],
+    sets: &mut [u64],
+    coeffs: &mut [u8],
+) -> Run
+    requires { ⌜ Fits run (two CZ a b ∷ []) (lent ws fs sets coeffs) ⌝ }
+    ensures { λ r. ⌜ Runs (two CZ a b) run r (before ws fs sets coeffs) (after ws fs sets coeffs) ⌝ }
 {
-    let wires = sum.wires;
-    let phase = sum.phase;
-    Sum {
-        n: sum.n,
-        next: sum.next,
-        wires,
-        phase: put_product(phase, wire(wires, a), wire(wires, b), sets, coeffs),
+    let phase = run.phase;
+    Run {
+        next: run.next,
+        phase: put_product(phase, wire_at(ws, fs, a), wire_at(ws, fs, b), sets, coeffs),
     }
 }
 
-// The wires after a gate that adds no term: X, CX, SWAP.
-pub fn moved(wires: Wires, kind: u8, a: usize, b: usize) -> Wires
-    requires { ⌜ (a < 16) × (7 < kind → b < 16) ⌝ }
-    ensures { λ r. ⌜ ((n : ℕ) → n ≤ 16 → Within n (gateOf (raw kind a b)) → wiresOf n r ≡ movedWires (gateOf (raw kind a b)) (wiresOf n wires)) ⌝ }
+// A gate that adds terms, given by its three bytes.
+pub fn run_gate(
+    run: Run,
+    kind: u8,
+    a: u8,
+    b: u8,
+    ws: &mut [u64],
+    fs: &mut [bool],
+    sets: &mut [u64],
+    coeffs: &mut [u8],
+) -> Run
+    requires { ⌜ (movesOnly (gateOf (raw kind a b)) ≡ false) × Fits run (gateOf (raw kind a b) ∷ []) (lent ws fs sets coeffs) ⌝ }
+    ensures { λ r. ⌜ Runs (gateOf (raw kind a b)) run r (before ws fs sets coeffs) (after ws fs sets coeffs) ⌝ }
 {
-    if kind == gate::X {
-        return flip_wire(wires, a);
+    let p = a as usize;
+    let q = b as usize;
+    if kind == gate::Y {
+        return y_gate(run, p, ws, fs, sets, coeffs);
     }
-    if kind == gate::CX {
-        return add_wire(wires, a, b);
+    if kind == gate::H {
+        return hadamard(run, p, ws, fs, sets, coeffs);
     }
-    if kind > gate::CZ {
-        return swap_wires(wires, a, b);
+    if kind == gate::CZ {
+        return controlled_z(run, p, q, ws, fs, sets, coeffs);
     }
-    wires
+    diagonal(run, diagonal_of(kind), p, ws, fs, sets, coeffs)
 }

@@ -1,16 +1,16 @@
--- Gates run on a sum whose terms stand in two lent workspaces: what each of the functions that run a gate leaves, and what is
--- left to run while a loop or a row of calls goes over a list.
+-- Gates run on a sum whose wires and terms stand in lent slices: what each of the functions that run a gate leaves, and what is left to
+-- run while a loop or a row of calls goes over a list.
 -- Assumes nothing.
 use mathlib.Core.Path.{_≡_, refl, sym, ap, _∙_}
 use Prim.Native.Nat.{ℕ, zero, suc, _+_, _-_, _%_, _≤_, _<_}
 use native.Mathlib.Omega.{arith}
-use mathlib.Core.Bool.{Bool, true, false, cond}
+use mathlib.Core.Bool.{Bool, true, false, cond, false≢true}
 use mathlib.Core.List.{List, [], _∷_, _++_, append-nil, map-append, reverse-append}
 use lib.ListN.{length, getD, set, take, drop, length-append, length-take, length-map}
-use lib.Seq.{take-add}
-use lib.Dec.{leb}
-use borrow.Author.Tests.{leb-true, lt-leb}
-use Rattle.record_format.specs.Gate.{Gate, OneQubit, TwoQubit, one, two, X, Y, Z, S, S†, T, T†, H, CX, CZ, SWAP, Within, AllWithin, oneQubitKinds, twoQubitKinds, raw, gateOf, inverseNumber, inverseList}
+use lib.Seq.{take-add, take-append-seam}
+use lib.Dec.{leb, ltb}
+use borrow.Author.Tests.{leb-true, leb-false, lt-leb, ltb-true, ltb-false}
+use Rattle.record_format.specs.Gate.{Gate, OneQubit, TwoQubit, one, two, X, Y, Z, S, S†, T, T†, H, CX, CZ, SWAP, Within, AllWithin, oneQubitKinds, twoQubitKinds, raw, gateOf, inverseNumber, inverseGate, inverseKind, inverseList}
 use Rattle.record_format.specs.Reading.{raws}
 use Rattle.record_format.proofs.GateLaws.{inverse-raw, within-append, within-inverse}
 use Rattle.record_format.proofs.Storing.{three-at}
@@ -21,12 +21,12 @@ use Rattle.phase_sum_meaning.specs.Parity.{Parity, of, _⊕_, complement}
 use Rattle.phase_sum_meaning.specs.Phase.{Term, Phase as Polynomial, minus, addConstant, addTerm, addPhase}
 use Rattle.phase_sum_meaning.specs.Building.{PathSum, initial, wire, setWire, withPhase, hadamard, gate, build}
 use Rattle.phase_sum_meaning.specs.Room.{roomFor, room}
-use Rattle.phase_sum_terms.specs.Workspace.{held, setsOf, coeffsOf, over, Stored, merged, parityOf, wiresOf, sumOf}
-use Rattle.phase_sum_terms.specs.Unmerged.{gatesIn, phaseTerm, productTerms, gateTerms, appendGate, appendGates, Fitting, appended, Buildable, Shows}
-use Rattle.phase_sum_terms.specs.Inner.{phaseConstant, productConstant, diagonalOf, movedWires, appendPhase, onH}
+use Rattle.phase_sum_terms.specs.Workspace.{held, setsOf, coeffsOf, over, Stored, merged, parityOf, zipWires, Lent, slices, wiresIn, sumOf}
+use Rattle.phase_sum_terms.specs.Unmerged.{gatesIn, phaseTerm, productTerms, gateTerms, appendGate, appendGates, sumIn, Fits, Leaves, movesOnly, Moves, appended, Builds, Buildable, Shows}
+use Rattle.phase_sum_terms.specs.Inner.{phaseConstant, productConstant, appendPhase, onH}
 use Rattle.phase_sum_terms.specs.declared.Phase.{Phase}
 use Rattle.phase_sum_terms.specs.declared.Wire.{Wire}
-use Rattle.phase_sum_terms.specs.declared.Wires.{Wires}
+use Rattle.phase_sum_terms.specs.declared.Run.{Run}
 use Rattle.phase_sum_terms.specs.declared.Sum.{Sum}
 use Rattle.phase_sum_terms.proofs.Storing.{length-held, over-grown, stored-same, stored-held, stored-grown, stored-again}
 use Rattle.phase_sum_terms.proofs.Merging.{merged-build, merged-gates, mergedSum}
@@ -55,92 +55,112 @@ product-constant u v φ =
     ap (phaseConstant 6 (u ⊕ v)) (ap (phaseConstant 2 v) (phase-constant 2 u φ) ∙ phase-constant 2 v (addPhase 2 u φ))
     ∙ phase-constant 6 (u ⊕ v) (addPhase 2 v (addPhase 2 u φ))
 
--- a sum's next variable stands behind its live ones
-next-behind : (s : Sum) → s .n ≤ s .next → s .next ≡ s .n + length (from (s .n) (s .next - s .n))
-next-behind s l = rw from-length (omega arith)
+-- the four slices are as long as they were
+pub record AsLong (l l′ : Lent) : Type 0 where
+  pub wires : length (l′ .wires) ≡ length (l .wires)
+  pub flips : length (l′ .flips) ≡ length (l .flips)
+  pub sets : length (l′ .sets) ≡ length (l .sets)
+  pub coeffs : length (l′ .coeffs) ≡ length (l .coeffs)
+
+-- and again
+pub long-after : {l l₁ l₂ : Lent} → AsLong l l₁ → AsLong l₁ l₂ → AsLong l l₂
+long-after a b =
+    record {
+      wires = b .wires ∙ a .wires;
+      flips = b .flips ∙ a .flips;
+      sets = b .sets ∙ a .sets;
+      coeffs = b .coeffs ∙ a .coeffs;
+    }
+
+-- terms put behind those of a sum under construction
+abbrev Added : List Term → Run → Phase → Lent → List ℕ → List ℕ → Type 0
+Added ts s p l ss′ cs′ =
+    Stored (s .phase .count) (held (s .phase .count) (l .sets) (l .coeffs) ++ ts) (p .count) (l .sets) (l .coeffs) ss′ cs′
+
+-- the next variable stands behind the live ones
+next-behind : (n next : ℕ) → n ≤ next → next ≡ n + length (from n (next - n))
+next-behind n next l = rw from-length (omega arith)
 
 -- what a phase on wire q leaves
-pub diagonal-shows :
-    (s : Sum) (c q : ℕ) (w : Wire) (p : Phase) (ss cs : List ℕ) {ss′ cs′ : List ℕ} →
-    s .n ≤ s .next →
-    parityOf w ≡ wire q (sumOf s ss cs) →
+pub diagonal-leaves :
+    (s : Run) (c q : ℕ) (l : Lent) (w : Wire) (p : Phase) {ss′ cs′ : List ℕ} →
+    length (l .wires) ≤ s .next →
+    parityOf w ≡ wire q (sumIn s l) →
     p .constant ≡ phaseConstant c (parityOf w) (s .phase .constant) →
-    Stored (s .phase .count) (held (s .phase .count) ss cs ++ phaseTerm c (parityOf w) ∷ []) (p .count) ss cs ss′ cs′ →
-    Shows (appendPhase c q (sumOf s ss cs)) (s .n) (s .phase .count)
-    (record { n = s .n; next = s .next; wires = s .wires; phase = p }) ss cs ss′ cs′
+    Added (phaseTerm c (parityOf w) ∷ []) s p l ss′ cs′ →
+    Leaves (appendPhase c q (sumIn s l)) (s .phase .count) (record { next = s .next; phase = p }) l
+    (slices (l .wires) (l .flips) ss′ cs′)
 unfolding appendPhase
-diagonal-shows s c q w p ss cs l e constant terms =
+diagonal-leaves s c q l w p started e constant terms =
     record {
-      qubits = refl;
-      next = next-behind s l;
-      constant = (rw e at constant) ∙ phase-constant c (wire q (sumOf s ss cs)) (sumOf s ss cs .phase);
+      next = next-behind (length (l .wires)) (s .next) started;
+      constant = (rw e at constant) ∙ phase-constant c (wire q (sumIn s l)) (sumIn s l .phase);
       wires = refl;
       terms = rw e at terms;
     }
 
 -- what Y leaves
-pub y-shows :
-    (s : Sum) (q : ℕ) (w : Wire) (ws : Wires) (p : Phase) (k : ℕ) (ss cs : List ℕ) {ss′ cs′ : List ℕ} →
-    s .n ≤ s .next →
-    parityOf w ≡ wire q (sumOf s ss cs) →
+pub y-leaves :
+    (s : Run) (q : ℕ) (l : Lent) (fs′ : List Bool) (w : Wire) (p : Phase) (k : ℕ) {ss′ cs′ : List ℕ} →
+    length (l .wires) ≤ s .next →
+    parityOf w ≡ wire q (sumIn s l) →
     p .constant ≡ phaseConstant 4 (parityOf w) (s .phase .constant) →
-    Stored (s .phase .count) (held (s .phase .count) ss cs ++ phaseTerm 4 (parityOf w) ∷ []) (p .count) ss cs ss′ cs′ →
-    wiresOf (s .n) ws ≡ set (wiresOf (s .n) (s .wires)) q (complement (wire q (sumOf s ss cs))) →
+    Added (phaseTerm 4 (parityOf w) ∷ []) s p l ss′ cs′ →
+    zipWires (l .wires) fs′ ≡ set (wiresIn l) q (complement (wire q (sumIn s l))) →
     k ≡ (p .constant + 2) % 8 →
-    Shows (appendGate (s .n) (one Y q) (sumOf s ss cs)) (s .n) (s .phase .count)
-    (record { n = s .n; next = s .next; wires = ws; phase = record { constant = k; count = p .count } }) ss cs ss′ cs′
+    Leaves (appendGate (length (l .wires)) (one Y q) (sumIn s l)) (s .phase .count)
+    (record { next = s .next; phase = record { constant = k; count = p .count } }) l
+    (slices (l .wires) fs′ ss′ cs′)
 unfolding appendGate gate gateTerms setWire withPhase addConstant
-y-shows s q w ws p k ss cs l e constant terms wires turned =
+y-leaves s q l fs′ w p k started e constant terms wires turned =
     record {
-      qubits = refl;
-      next = next-behind s l;
+      next = next-behind (length (l .wires)) (s .next) started;
       constant =
           turned
-          ∙ ap (λ (m : ℕ). (m + 2) % 8) ((rw e at constant) ∙ phase-constant 4 (wire q (sumOf s ss cs)) (sumOf s ss cs .phase));
+          ∙ ap (λ (m : ℕ). (m + 2) % 8) ((rw e at constant) ∙ phase-constant 4 (wire q (sumIn s l)) (sumIn s l .phase));
       wires = wires;
       terms = rw e at terms;
     }
 
 -- what H leaves
-pub hadamard-shows :
-    (s : Sum) (q : ℕ) (u v : Wire) (ws : Wires) (p : Phase) (next : ℕ) (ss cs : List ℕ) {ss′ cs′ : List ℕ} →
-    s .n ≤ s .next →
+pub hadamard-leaves :
+    (s : Run) (q : ℕ) (l : Lent) (ws′ : List ℕ) (fs′ : List Bool) (u v : Wire) (p : Phase) (next : ℕ) {ss′ cs′ : List ℕ} →
+    length (l .wires) ≤ s .next →
     next ≡ s .next + 1 →
-    parityOf u ≡ wire q (sumOf s ss cs) →
+    parityOf u ≡ wire q (sumIn s l) →
     parityOf v ≡ of (single (s .next)) →
     p .constant ≡ productConstant (parityOf u) (parityOf v) (s .phase .constant) →
-    Stored (s .phase .count) (held (s .phase .count) ss cs ++ productTerms (parityOf u) (parityOf v)) (p .count) ss cs ss′ cs′ →
-    wiresOf (s .n) ws ≡ set (wiresOf (s .n) (s .wires)) q (parityOf v) →
-    Shows (appendGate (s .n) (onH q) (sumOf s ss cs)) (s .n) (s .phase .count)
-    (record { n = s .n; next = next; wires = ws; phase = p }) ss cs ss′ cs′
+    Added (productTerms (parityOf u) (parityOf v)) s p l ss′ cs′ →
+    zipWires ws′ fs′ ≡ set (wiresIn l) q (parityOf v) →
+    Leaves (appendGate (length (l .wires)) (onH q) (sumIn s l)) (s .phase .count) (record { next = next; phase = p }) l
+    (slices ws′ fs′ ss′ cs′)
 unfolding appendGate gate gateTerms hadamard withPhase
-hadamard-shows s q u v ws p next ss cs l more e f constant terms wires =
-    let new = next-behind s l in
-    let f′ : parityOf v ≡ of (single (s .n + length (from (s .n) (s .next - s .n)))) = f ∙ ap (λ (m : ℕ). of (single m)) new in
+hadamard-leaves s q l ws′ fs′ u v p next started more e f constant terms wires =
+    let n = length (l .wires) in
+    let new = next-behind n (s .next) started in
+    let f′ : parityOf v ≡ of (single (n + length (from n (s .next - n)))) = f ∙ ap (λ (m : ℕ). of (single m)) new in
     record {
-      qubits = refl;
       next = simp length-append (omega arith);
-      constant = (rw (e, f′) at constant) ∙ product-constant _ _ (sumOf s ss cs .phase);
+      constant = (rw (e, f′) at constant) ∙ product-constant _ _ (sumIn s l .phase);
       wires = rw f′ at wires;
       terms = rw (e, f′) at terms;
     }
 
 -- what CZ leaves
-pub controlled-z-shows :
-    (s : Sum) (a b : ℕ) (u v : Wire) (p : Phase) (ss cs : List ℕ) {ss′ cs′ : List ℕ} →
-    s .n ≤ s .next →
-    parityOf u ≡ wire a (sumOf s ss cs) →
-    parityOf v ≡ wire b (sumOf s ss cs) →
+pub controlled-z-leaves :
+    (s : Run) (a b : ℕ) (l : Lent) (u v : Wire) (p : Phase) {ss′ cs′ : List ℕ} →
+    length (l .wires) ≤ s .next →
+    parityOf u ≡ wire a (sumIn s l) →
+    parityOf v ≡ wire b (sumIn s l) →
     p .constant ≡ productConstant (parityOf u) (parityOf v) (s .phase .constant) →
-    Stored (s .phase .count) (held (s .phase .count) ss cs ++ productTerms (parityOf u) (parityOf v)) (p .count) ss cs ss′ cs′ →
-    Shows (appendGate (s .n) (two CZ a b) (sumOf s ss cs)) (s .n) (s .phase .count)
-    (record { n = s .n; next = s .next; wires = s .wires; phase = p }) ss cs ss′ cs′
+    Added (productTerms (parityOf u) (parityOf v)) s p l ss′ cs′ →
+    Leaves (appendGate (length (l .wires)) (two CZ a b) (sumIn s l)) (s .phase .count) (record { next = s .next; phase = p }) l
+    (slices (l .wires) (l .flips) ss′ cs′)
 unfolding appendGate gate gateTerms withPhase
-controlled-z-shows s a b u v p ss cs l e f constant terms =
+controlled-z-leaves s a b l u v p started e f constant terms =
     record {
-      qubits = refl;
-      next = next-behind s l;
-      constant = (rw (e, f) at constant) ∙ product-constant _ _ (sumOf s ss cs .phase);
+      next = next-behind (length (l .wires)) (s .next) started;
+      constant = (rw (e, f) at constant) ∙ product-constant _ _ (sumIn s l .phase);
       wires = refl;
       terms = rw (e, f) at terms;
     }
@@ -172,55 +192,20 @@ bytes-within n k a b = go (leb k 7) refl
     go true e l = (l, λ m. absurd (omega (arith, leb-true k 7 e)))
     go false e l = (l .0, λ m. l .1)
 
--- a gate with a coefficient of its own is on one qubit
-diagonal-one : (k a b : ℕ) → (diagonalOf (gateOf (raw k a b)) ≡ 0 → ⊥) → (u : OneQubit) × (gateOf (raw k a b) ≡ one u a)
-unfolding gateOf diagonalOf
-diagonal-one k a b = go (leb k 7)
-  where
-    go :
-        (t : Bool) →
-        (diagonalOf (cond t (one (getD oneQubitKinds k H) a) (two (getD twoQubitKinds (k - 8) SWAP) a b)) ≡ 0 → ⊥) →
-        (u : OneQubit) × (cond t (one (getD oneQubitKinds k H) a) (two (getD twoQubitKinds (k - 8) SWAP) a b) ≡ one u a)
-    go true ne = (getD oneQubitKinds k H, refl)
-    go false ne = absurd (ne (unfold diagonalOf in refl))
-
--- it takes one place and puts its phase on the qubit's wire
-diagonal-adds :
-    (n : ℕ) (u : OneQubit) (a : ℕ) (s : PathSum) →
-    (diagonalOf (one u a) ≡ 0 → ⊥) →
-    (roomFor (one u a) ≡ 1) × (appendGate n (one u a) s ≡ appendPhase (diagonalOf (one u a)) a s)
-unfolding diagonalOf roomFor appendGate appendPhase gate gateTerms withPhase
-diagonal-adds n X a s ne = absurd (ne refl)
-diagonal-adds n Y a s ne = absurd (ne refl)
-diagonal-adds n Z a s ne = (refl, refl)
-diagonal-adds n S a s ne = (refl, refl)
-diagonal-adds n S† a s ne = (refl, refl)
-diagonal-adds n T a s ne = (refl, refl)
-diagonal-adds n T† a s ne = (refl, refl)
-diagonal-adds n H a s ne = absurd (ne refl)
-
--- so for its three bytes
-pub diagonal-gate :
-    (n k a b : ℕ) (s : PathSum) →
-    (diagonalOf (gateOf (raw k a b)) ≡ 0 → ⊥) →
-    (roomFor (gateOf (raw k a b)) ≡ 1) × (appendGate n (gateOf (raw k a b)) s ≡ appendPhase (diagonalOf (gateOf (raw k a b))) a s)
-diagonal-gate n k a b s ne =
-    let found = diagonal-one k a b ne in
-    rw (found .1) (diagonal-adds n (found .0) a s (rw (found .1) at ne))
-
--- where it fits, `diagonal` may be called
-pub diagonal-fits :
-    (s : Sum) (k a b : ℕ) {ss cs : List ℕ} →
-    Fitting s (gateOf (raw k a b) ∷ []) ss cs →
-    (diagonalOf (gateOf (raw k a b)) ≡ 0 → ⊥) →
-    (a < s .n) × (s .n ≤ 16) × (s .n ≤ s .next) × (s .phase .count < length ss) × (s .phase .count < length cs)
-unfolding tally
-diagonal-fits s k a b {ss} {cs} fits ne =
-    let one-place = diagonal-gate (s .n) k a b (sumOf s ss cs) ne .0 in
-    (bytes-within (s .n) k a b (fits .within .0) .0, fits .few, fits .started, omega arith, omega arith)
+-- the kinds from Z to the inverse of T put one phase on their wire: they take one place
+pub diagonal-room : (k a b : ℕ) → 1 < k → k < 7 → roomFor (gateOf (raw k a b)) ≡ 1
+unfolding gateOf roomFor
+diagonal-room zero a b l h = absurd (omega arith)
+diagonal-room (suc zero) a b l h = absurd (omega arith)
+diagonal-room (suc (suc zero)) a b l h = refl
+diagonal-room (suc (suc (suc zero))) a b l h = refl
+diagonal-room (suc (suc (suc (suc zero)))) a b l h = refl
+diagonal-room (suc (suc (suc (suc (suc zero))))) a b l h = refl
+diagonal-room (suc (suc (suc (suc (suc (suc zero)))))) a b l h = refl
+diagonal-room (suc (suc (suc (suc (suc (suc (suc k))))))) a b l h = absurd (omega arith)
 
 -- a two-qubit kind from 10 on is SWAP
-kind-swap : (k a b : ℕ) → 9 < k → gateOf (raw k a b) ≡ two SWAP a b
+pub kind-swap : (k a b : ℕ) → 9 < k → gateOf (raw k a b) ≡ two SWAP a b
 unfolding gateOf
 kind-swap k a b l = rw (lt-leb k 7 (omega arith)) (ap (λ (v : TwoQubit). two v a b) (go (k - 8) (omega arith)))
   where
@@ -230,57 +215,127 @@ kind-swap k a b l = rw (lt-leb k 7 (omega arith)) (ap (λ (v : TwoQubit). two v 
     go (suc (suc zero)) h = refl
     go (suc (suc (suc m))) h = refl
 
--- a gate that only moves the wires
-abbrev Moves : ℕ → Gate → PathSum → Type 0
-Moves n g s = appendGate n g s ≡ record { phase = s .phase; wires = movedWires g (s .wires); live = s .live }
+-- every kind but X, CX and SWAP takes a place
+pub kind-stays : (k a b : ℕ) → (k ≡ 0 → ⊥) → (k ≡ 8 → ⊥) → k ≤ 9 → false ≡ movesOnly (gateOf (raw k a b))
+unfolding gateOf roomFor
+kind-stays zero a b x cx l = absurd (x refl)
+kind-stays (suc zero) a b x cx l = refl
+kind-stays (suc (suc zero)) a b x cx l = refl
+kind-stays (suc (suc (suc zero))) a b x cx l = refl
+kind-stays (suc (suc (suc (suc zero)))) a b x cx l = refl
+kind-stays (suc (suc (suc (suc (suc zero))))) a b x cx l = refl
+kind-stays (suc (suc (suc (suc (suc (suc zero)))))) a b x cx l = refl
+kind-stays (suc (suc (suc (suc (suc (suc (suc zero))))))) a b x cx l = refl
+kind-stays (suc (suc (suc (suc (suc (suc (suc (suc zero)))))))) a b x cx l = absurd (cx refl)
+kind-stays (suc (suc (suc (suc (suc (suc (suc (suc (suc zero))))))))) a b x cx l = refl
+kind-stays (suc (suc (suc (suc (suc (suc (suc (suc (suc (suc k)))))))))) a b x cx l = absurd (omega arith)
 
--- SWAP is one
-swap-moves : (n a b : ℕ) (s : PathSum) → Moves n (two SWAP a b) s
-unfolding movedWires appendGate gate gateTerms setWire
-swap-moves n a b s = rw append-nil
+-- so one that takes none and is neither X nor CX is above CZ
+pub kind-moves : (k a b : ℕ) → movesOnly (gateOf (raw k a b)) ≡ true → (k ≡ 0 → ⊥) → (k ≡ 8 → ⊥) → 9 < k
+kind-moves k a b e x cx = go (leb k 9) refl
+  where
+    go : (t : Bool) → leb k 9 ≡ t → 9 < k
+    go true h = absurd (false≢true (kind-stays k a b x cx (leb-true k 9 h) ∙ e))
+    go false h = leb-false k 9 h
 
--- so are all with no coefficient of their own but Y, H and CZ
-moved-gate :
-    (n k a b : ℕ) (s : PathSum) →
-    (k ≡ 1 → ⊥) →
-    (k ≡ 7 → ⊥) →
-    (k ≡ 9 → ⊥) →
-    diagonalOf (gateOf (raw k a b)) ≡ 0 →
-    Moves n (gateOf (raw k a b)) s
-unfolding gateOf diagonalOf movedWires appendGate gate gateTerms setWire
-moved-gate n zero a b s not-y not-h not-cz e = rw append-nil
-moved-gate n (suc zero) a b s not-y not-h not-cz e = absurd (not-y refl)
-moved-gate n (suc (suc zero)) a b s not-y not-h not-cz e = absurd (omega arith)
-moved-gate n (suc (suc (suc zero))) a b s not-y not-h not-cz e = absurd (omega arith)
-moved-gate n (suc (suc (suc (suc zero)))) a b s not-y not-h not-cz e = absurd (omega arith)
-moved-gate n (suc (suc (suc (suc (suc zero))))) a b s not-y not-h not-cz e = absurd (omega arith)
-moved-gate n (suc (suc (suc (suc (suc (suc zero)))))) a b s not-y not-h not-cz e = absurd (omega arith)
-moved-gate n (suc (suc (suc (suc (suc (suc (suc zero))))))) a b s not-y not-h not-cz e = absurd (not-h refl)
-moved-gate n (suc (suc (suc (suc (suc (suc (suc (suc zero)))))))) a b s not-y not-h not-cz e = rw append-nil
-moved-gate n (suc (suc (suc (suc (suc (suc (suc (suc (suc zero))))))))) a b s not-y not-h not-cz e = absurd (not-cz refl)
-moved-gate n (suc (suc (suc (suc (suc (suc (suc (suc (suc (suc k)))))))))) a b s not-y not-h not-cz e =
-    rw (kind-swap (suc (suc (suc (suc (suc (suc (suc (suc (suc (suc k)))))))))) a b (omega arith)) (swap-moves n a b s)
+-- so such a kind takes none exactly where it is above CZ
+pub above-cz : (k a b : ℕ) → (k ≡ 0 → ⊥) → (k ≡ 8 → ⊥) → ltb 9 k ≡ movesOnly (gateOf (raw k a b))
+unfolding roomFor
+above-cz k a b x cx = go (ltb 9 k) refl
+  where
+    go : (t : Bool) → ltb 9 k ≡ t → t ≡ movesOnly (gateOf (raw k a b))
+    go true h = rw (kind-swap k a b (ltb-true 9 k h))
+    go false h = kind-stays k a b x cx (ltb-false 9 k h)
 
--- what X, CX and SWAP leave
-pub moved-shows :
-    (s : Sum) (k a b : ℕ) (ws : Wires) (ss cs : List ℕ) →
-    Fitting s (gateOf (raw k a b) ∷ []) ss cs →
-    (k ≡ 1 → ⊥) →
-    (k ≡ 7 → ⊥) →
-    (k ≡ 9 → ⊥) →
-    diagonalOf (gateOf (raw k a b)) ≡ 0 →
-    wiresOf (s .n) ws ≡ movedWires (gateOf (raw k a b)) (wiresOf (s .n) (s .wires)) →
-    Shows (appendGate (s .n) (gateOf (raw k a b)) (sumOf s ss cs)) (s .n) (s .phase .count)
-    (record { n = s .n; next = s .next; wires = ws; phase = s .phase }) ss cs ss cs
-moved-shows s k a b ws ss cs fits not-y not-h not-cz e wires =
-    rw (moved-gate (s .n) k a b (sumOf s ss cs) not-y not-h not-cz e)
+-- and one that takes some and is not Y, H or CZ puts one phase on its wire
+pub kind-diagonal :
+    (k a b : ℕ) → movesOnly (gateOf (raw k a b)) ≡ false → (k ≡ 1 → ⊥) → (k ≡ 7 → ⊥) → (k ≡ 9 → ⊥) → (1 < k) × (k < 7)
+unfolding gateOf roomFor
+kind-diagonal zero a b e y h cz = absurd (false≢true (sym e))
+kind-diagonal (suc zero) a b e y h cz = absurd (y refl)
+kind-diagonal (suc (suc zero)) a b e y h cz = (omega arith, omega arith)
+kind-diagonal (suc (suc (suc zero))) a b e y h cz = (omega arith, omega arith)
+kind-diagonal (suc (suc (suc (suc zero)))) a b e y h cz = (omega arith, omega arith)
+kind-diagonal (suc (suc (suc (suc (suc zero))))) a b e y h cz = (omega arith, omega arith)
+kind-diagonal (suc (suc (suc (suc (suc (suc zero)))))) a b e y h cz = (omega arith, omega arith)
+kind-diagonal (suc (suc (suc (suc (suc (suc (suc zero))))))) a b e y h cz = absurd (h refl)
+kind-diagonal (suc (suc (suc (suc (suc (suc (suc (suc zero)))))))) a b e y h cz = absurd (false≢true (sym e))
+kind-diagonal (suc (suc (suc (suc (suc (suc (suc (suc (suc zero))))))))) a b e y h cz = absurd (cz refl)
+kind-diagonal (suc (suc (suc (suc (suc (suc (suc (suc (suc (suc k)))))))))) a b e y h cz =
+    absurd (false≢true (sym (rw (kind-swap (suc (suc (suc (suc (suc (suc (suc (suc (suc (suc k)))))))))) a b (omega arith)) at e)))
+
+-- X moves wires
+pub x-moves : (q : ℕ) (ws : List Parity) → Moves (one X q) ws (set ws q (complement (getD ws q (of 0))))
+unfolding appendGate gate gateTerms setWire
+x-moves q ws n s e = rw (append-nil, ← e)
+
+-- and in this way
+pub x-moved :
+    (q : ℕ) (ws ws′ : List Parity) → Moves (one X q) ws ws′ → ws′ ≡ set ws q (complement (getD ws q (of 0)))
+unfolding appendGate gate setWire
+x-moved q ws ws′ moves =
+    sym (ap (λ (t : PathSum). t .wires) (moves 0 (record { phase = record { constant = 0; terms = [] }; wires = ws; live = [] }) refl))
+
+-- so does CX
+pub cx-moves : (a b : ℕ) (ws : List Parity) → Moves (two CX a b) ws (set ws b (getD ws b (of 0) ⊕ getD ws a (of 0)))
+unfolding appendGate gate gateTerms setWire
+cx-moves a b ws n s e = rw (append-nil, ← e)
+
+-- so does SWAP
+pub swap-moves : (a b : ℕ) (ws : List Parity) → Moves (two SWAP a b) ws (set (set ws a (getD ws b (of 0))) b (getD ws a (of 0)))
+unfolding appendGate gate gateTerms setWire
+swap-moves a b ws n s e = rw (append-nil, ← e)
+
+-- what a gate that only moves wires leaves
+pub moves-leaves :
+    (s : Run) (g : Gate) (l : Lent) (ws′ : List ℕ) (fs′ : List Bool) →
+    Fits s (g ∷ []) l →
+    Moves g (wiresIn l) (zipWires ws′ fs′) →
+    Leaves (appendGate (length (l .wires)) g (sumIn s l)) (s .phase .count) s l (slices ws′ fs′ (l .sets) (l .coeffs))
+moves-leaves s g l ws′ fs′ fits moves =
+    rw (moves (length (l .wires)) (sumIn s l) refl)
     (record {
-      qubits = refl;
-      next = next-behind s (fits .started);
+      next = next-behind (length (l .wires)) (s .next) (fits .started);
       constant = refl;
-      wires = wires;
-      terms = stored-same (s .phase .count) ss cs (omega arith) (omega arith);
+      wires = refl;
+      terms = stored-same (s .phase .count) (l .sets) (l .coeffs) (omega (arith, fits .sets)) (omega (arith, fits .coeffs));
     })
+
+-- a gate that only moves wires is its own inverse
+moves-inverse : (g : Gate) → movesOnly g ≡ true → inverseGate g ≡ g
+unfolding roomFor inverseGate inverseKind
+moves-inverse (one X q) e = refl
+moves-inverse (one Y q) e = absurd (false≢true e)
+moves-inverse (one Z q) e = absurd (false≢true e)
+moves-inverse (one S q) e = absurd (false≢true e)
+moves-inverse (one S† q) e = absurd (false≢true e)
+moves-inverse (one T q) e = absurd (false≢true e)
+moves-inverse (one T† q) e = absurd (false≢true e)
+moves-inverse (one H q) e = absurd (false≢true e)
+moves-inverse (two CX a b) e = refl
+moves-inverse (two CZ a b) e = absurd (false≢true e)
+moves-inverse (two SWAP a b) e = refl
+
+-- by its bytes
+pub inverse-moves : (k a b : ℕ) → movesOnly (gateOf (raw k a b)) ≡ true → gateOf (raw (inverseNumber k) a b) ≡ gateOf (raw k a b)
+inverse-moves k a b e = inverse-raw k a b ∙ moves-inverse (gateOf (raw k a b)) e
+
+-- and inverting makes no other gate one
+pub inverse-stays :
+    (k a b : ℕ) → movesOnly (gateOf (raw k a b)) ≡ false → movesOnly (gateOf (raw (inverseNumber k) a b)) ≡ false
+unfolding roomFor inverseGate inverseKind
+inverse-stays k a b e = rw (inverse-raw k a b) (go (gateOf (raw k a b)) e)
+  where
+    go : (g : Gate) → movesOnly g ≡ false → movesOnly (inverseGate g) ≡ false
+    go (one X q) h = h
+    go (one Y q) h = h
+    go (one Z q) h = h
+    go (one S q) h = refl
+    go (one S† q) h = refl
+    go (one T q) h = refl
+    go (one T† q) h = refl
+    go (one H q) h = h
+    go (two v a b) h = h
 
 -- more gates run on what gates leave
 append-gates : (n : ℕ) (gs hs : List Gate) (s : PathSum) → appendGates n (gs ++ hs) s ≡ appendGates n hs (appendGates n gs s)
@@ -327,121 +382,127 @@ live-appended : (n k : ℕ) (gs : List Gate) (s : PathSum) → s .live ≡ from 
 unfolding withPhase
 live-appended n k gs s e = ap (λ (t : PathSum). t .live) (merged-gates n gs s) ∙ live-gates 2 n k gs (mergedSum s) e
 
--- a sum and its workspaces stand for the path sum that they show, where its live variables are the next ones
-pub shows-sum :
-    {u : PathSum} {n m : ℕ} {r : Sum} {ss cs ss′ cs′ : List ℕ} →
-    Shows u n m r ss cs ss′ cs′ →
+-- a sum under construction stands for the path sum that was left, where its live variables are the next ones
+leaves-sum :
+    {u : PathSum} {m : ℕ} {r : Run} {l l′ : Lent} →
+    Leaves u m r l l′ →
+    length (l′ .wires) ≡ length (l .wires) →
     (k : ℕ) →
-    u .live ≡ from n k →
-    sumOf r ss′ cs′ ≡ u
-shows-sum {u} {n} {m} {r} {ss} {cs} {ss′} {cs′} shows k live =
-    let many : r .next - r .n ≡ k = omega (arith, shows .next, shows .qubits, ap length live, from-length n k) in
-    rw (many, shows .qubits, shows .constant, stored-held (shows .terms), shows .wires, ← live)
+    u .live ≡ from (length (l .wires)) k →
+    sumIn r l′ ≡ u
+leaves-sum {u} {m} {r} {l} {l′} leaves same k live =
+    let many : r .next - length (l .wires) ≡ k =
+    omega (arith, leaves .next, ap length live, from-length (length (l .wires)) k)
+    in
+    rw (same, many, leaves .constant, stored-held (leaves .terms), leaves .wires, ← live)
 
--- the gates gs are still to run on a sum on n qubits, to make it u, and they fit; m places were in use before the first gate ran
-pub record ToRun (u : PathSum) (gs : List Gate) (n m : ℕ) (r : Sum) (ss cs ss′ cs′ : List ℕ) : Type 0 where
-  pub qubits : r .n ≡ n
-  pub makes : appendGates n gs (sumOf r ss′ cs′) ≡ u
-  pub terms : Stored m (held (r .phase .count) ss′ cs′) (r .phase .count) ss cs ss′ cs′
-  pub fits : Fitting r gs ss′ cs′
+-- the gates gs are still to run, to make the sum u, and they fit; the first was run on l, of which m places were in use
+pub record ToRun (u : PathSum) (gs : List Gate) (m : ℕ) (r : Run) (l l′ : Lent) : Type 0 where
+  pub makes : appendGates (length (l .wires)) gs (sumIn r l′) ≡ u
+  pub terms : Stored m (held (r .phase .count) (l′ .sets) (l′ .coeffs)) (r .phase .count) (l .sets) (l .coeffs) (l′ .sets) (l′ .coeffs)
+  pub fits : Fits r gs l′
+  pub long : AsLong l l′
 
 -- before any gate has run
 pub none-run :
-    (s : Sum) (gs : List Gate) (ss cs : List ℕ) →
-    Fitting s gs ss cs →
-    ToRun (appendGates (s .n) gs (sumOf s ss cs)) gs (s .n) (s .phase .count) s ss cs ss cs
-none-run s gs ss cs fits =
-    record { qubits = refl; makes = refl; terms = stored-same (s .phase .count) ss cs (omega arith) (omega arith); fits = fits }
+    (s : Run) (gs : List Gate) (l : Lent) →
+    Fits s gs l →
+    ToRun (appendGates (length (l .wires)) gs (sumIn s l)) gs (s .phase .count) s l l
+none-run s gs l fits =
+    record {
+      makes = refl;
+      terms = stored-same (s .phase .count) (l .sets) (l .coeffs) (omega (arith, fits .sets)) (omega (arith, fits .coeffs));
+      fits = fits;
+      long = record { wires = refl; flips = refl; sets = refl; coeffs = refl };
+    }
 
 -- after the last gate
-pub all-run :
-    {u : PathSum} {n m : ℕ} {r : Sum} {ss cs ss′ cs′ : List ℕ} → ToRun u [] n m r ss cs ss′ cs′ → Shows u n m r ss cs ss′ cs′
+pub all-run : {u : PathSum} {m : ℕ} {r : Run} {l l′ : Lent} → ToRun u [] m r l l′ → Leaves u m r l l′
 unfolding appendGates
-all-run {r = r} run =
+all-run {r = r} {l′ = l′} run =
     rw (← run .makes)
     (record {
-      qubits = run .qubits;
-      next = rw (← run .qubits) (next-behind r (run .fits .started));
+      next = rw (← run .long .wires) (next-behind (length (l′ .wires)) (r .next) (run .fits .started));
       constant = refl;
-      wires = rw (run .qubits);
+      wires = refl;
       terms = run .terms;
     })
 
 -- what is left to fit after some of the gates
 rest-fits :
-    (s : Sum) (gs hs : List Gate) (ss cs : List ℕ) {r : Sum} {ss′ cs′ : List ℕ} →
-    Fitting s (gs ++ hs) ss cs →
-    Shows (appendGates (s .n) gs (sumOf s ss cs)) (s .n) (s .phase .count) r ss cs ss′ cs′ →
-    length ss′ ≡ length ss →
-    length cs′ ≡ length cs →
-    Fitting r hs ss′ cs′
-rest-fits s gs hs ss cs {r} {ss′} {cs′} fits shows e f =
-    let live = live-appended (s .n) (s .next - s .n) gs (sumOf s ss cs) refl in
+    (s : Run) (gs hs : List Gate) (l : Lent) {r : Run} {l′ : Lent} →
+    Fits s (gs ++ hs) l →
+    Leaves (appendGates (length (l .wires)) gs (sumIn s l)) (s .phase .count) r l l′ →
+    AsLong l l′ →
+    Fits r hs l′
+rest-fits s gs hs l {r} {l′} fits leaves long =
+    let n = length (l .wires) in
+    let live = live-appended n (s .next - n) gs (sumIn s l) refl in
     let next : r .next ≡ s .next + hGates gs =
-    omega (arith, shows .next, ap length live, from-length (s .n) (s .next - s .n + hGates gs), fits .started)
+    omega (arith, leaves .next, ap length live, from-length n (s .next - n + hGates gs), fits .started)
     in
-    let held-many = length-held (s .phase .count) ss cs (omega arith) (omega arith) in
+    let held-many =
+    length-held (s .phase .count) (l .sets) (l .coeffs) (omega (arith, fits .sets)) (omega (arith, fits .coeffs))
+    in
     let count : r .phase .count ≤ s .phase .count + tally roomFor gs =
-    omega (arith, shows .terms .counted, terms-gates (s .n) gs (sumOf s ss cs))
+    omega (arith, leaves .terms .counted, terms-gates n gs (sumIn s l))
     in
     let rooms = tally-append roomFor gs hs in
     record {
-      few = rw (shows .qubits) (fits .few);
-      started = omega (arith, shows .qubits, fits .started);
-      within = rw (shows .qubits) (within-parts (s .n) gs hs (fits .within) .1);
+      flips = omega (arith, long .flips, long .wires, fits .flips);
+      few = rw (long .wires) (fits .few);
+      started = omega (arith, long .wires, fits .started);
+      within = rw (long .wires) (within-parts n gs hs (fits .within) .1);
       variables = omega (arith, fits .variables, tally-append isH gs hs);
-      sets = omega (arith, fits .sets);
-      coeffs = omega (arith, fits .coeffs);
+      sets = omega (arith, fits .sets, long .sets);
+      coeffs = omega (arith, fits .coeffs, long .coeffs);
     }
 
 -- after some of the gates
 some-run :
-    {u : PathSum} (gs hs : List Gate) {n m : ℕ} (s : Sum) {r : Sum} {ss cs ss₁ cs₁ ss₂ cs₂ : List ℕ} →
-    ToRun u (gs ++ hs) n m s ss cs ss₁ cs₁ →
-    Shows (appendGates (s .n) gs (sumOf s ss₁ cs₁)) (s .n) (s .phase .count) r ss₁ cs₁ ss₂ cs₂ →
-    length ss₂ ≡ length ss₁ →
-    length cs₂ ≡ length cs₁ →
-    ToRun u hs n m r ss cs ss₂ cs₂
-some-run {u} gs hs {n} {m} s {r} {ss} {cs} {ss₁} {cs₁} {ss₂} {cs₂} run shows e f =
-    let sum : sumOf r ss₂ cs₂ ≡ appendGates (s .n) gs (sumOf s ss₁ cs₁) =
-    shows-sum shows (s .next - s .n + hGates gs) (live-appended (s .n) (s .next - s .n) gs (sumOf s ss₁ cs₁) refl)
+    {u : PathSum} (gs hs : List Gate) {m : ℕ} (s : Run) {r : Run} {l l₁ l₂ : Lent} →
+    ToRun u (gs ++ hs) m s l l₁ →
+    Leaves (appendGates (length (l₁ .wires)) gs (sumIn s l₁)) (s .phase .count) r l₁ l₂ →
+    AsLong l₁ l₂ →
+    ToRun u hs m r l l₂
+some-run {u} gs hs {m} s {r} {l} {l₁} {l₂} run leaves long =
+    let n = length (l₁ .wires) in
+    let sum : sumIn r l₂ ≡ appendGates n gs (sumIn s l₁) =
+    leaves-sum leaves (long .wires) (s .next - n + hGates gs) (live-appended n (s .next - n) gs (sumIn s l₁) refl)
     in
     record {
-      qubits = shows .qubits ∙ run .qubits;
       makes =
           rw sum
-          (ap (λ (k : ℕ). appendGates n hs (appendGates k gs (sumOf s ss₁ cs₁))) (run .qubits)
-          ∙ sym (append-gates n gs hs (sumOf s ss₁ cs₁))
+          (ap (λ (k : ℕ). appendGates (length (l .wires)) hs (appendGates k gs (sumIn s l₁))) (run .long .wires)
+          ∙ sym (append-gates (length (l .wires)) gs hs (sumIn s l₁))
           ∙ run .makes);
       terms =
-          rw (stored-held (shows .terms))
-          (stored-grown (run .terms) (shows .terms) (terms-gates (s .n) gs (sumOf s ss₁ cs₁) .0));
-      fits = rest-fits s gs hs ss₁ cs₁ (run .fits) shows e f;
+          rw (stored-held (leaves .terms)) (stored-grown (run .terms) (leaves .terms) (terms-gates n gs (sumIn s l₁) .0));
+      fits = rest-fits s gs hs l₁ (run .fits) leaves long;
+      long = long-after (run .long) long;
     }
 
 -- after the first gate
 pub one-run :
-    {u : PathSum} (g : Gate) (gs : List Gate) {n m : ℕ} (s : Sum) {r : Sum} {ss cs ss₁ cs₁ ss₂ cs₂ : List ℕ} →
-    ToRun u (g ∷ gs) n m s ss cs ss₁ cs₁ →
-    Shows (appendGate (s .n) g (sumOf s ss₁ cs₁)) (s .n) (s .phase .count) r ss₁ cs₁ ss₂ cs₂ →
-    length ss₂ ≡ length ss₁ →
-    length cs₂ ≡ length cs₁ →
-    ToRun u gs n m r ss cs ss₂ cs₂
+    {u : PathSum} (g : Gate) (gs : List Gate) {m : ℕ} (s : Run) {r : Run} {l l₁ l₂ : Lent} →
+    ToRun u (g ∷ gs) m s l l₁ →
+    Leaves (appendGate (length (l₁ .wires)) g (sumIn s l₁)) (s .phase .count) r l₁ l₂ →
+    AsLong l₁ l₂ →
+    ToRun u gs m r l l₂
 unfolding appendGates
-one-run g gs s run shows e f = some-run (g ∷ []) gs s run shows e f
+one-run g gs s run leaves long = some-run (g ∷ []) gs s run leaves long
 
 -- the first of the gates that are to run fit
 pub first-fit :
-    {u : PathSum} (gs hs : List Gate) {n m : ℕ} {s : Sum} {ss cs ss′ cs′ : List ℕ} →
-    ToRun u (gs ++ hs) n m s ss cs ss′ cs′ →
-    Fitting s gs ss′ cs′
-first-fit gs hs {s = s} run =
+    {u : PathSum} (gs hs : List Gate) {m : ℕ} {s : Run} {l l′ : Lent} → ToRun u (gs ++ hs) m s l l′ → Fits s gs l′
+first-fit gs hs {l′ = l′} run =
     let fits = run .fits in
     let rooms = tally-append roomFor gs hs in
     record {
+      flips = fits .flips;
       few = fits .few;
       started = fits .started;
-      within = within-parts (s .n) gs hs (fits .within) .0;
+      within = within-parts (length (l′ .wires)) gs hs (fits .within) .0;
       variables = omega (arith, fits .variables, tally-append isH gs hs);
       sets = omega (arith, fits .sets);
       coeffs = omega (arith, fits .coeffs);
@@ -491,15 +552,19 @@ inverse-before bytes i h p l =
 abbrev pairGates : List ℕ → List ℕ → List Gate
 pairGates first second = gatesIn first ++ inverseList (gatesIn second)
 
--- a pair's gates on the sum of no gates
+-- a pair's gates on the sum of no gates, which a call left that was lent l
 module _
-    {n : ℕ} (first second : List ℕ) {ss cs : List ℕ} (fits : Buildable n first second ss cs)
-    (s : Sum) (starts : Shows (initial 0 n) n 0 s ss cs ss cs)
+    (first second : List ℕ) {l l₁ : Lent} (fits : Buildable (length (l .wires)) first second (l .sets) (l .coeffs))
+    (s : Run) (starts : Leaves (initial 0 (length (l .wires))) 0 s l l₁) (long : AsLong l l₁)
+    (flips : length (l .flips) ≡ length (l .wires))
   where
     -- before any gate has run
-    start-run : ToRun (appendGates n (pairGates first second) (initial 0 n)) (pairGates first second) n 0 s ss cs ss cs
+    start-run :
+        ToRun (appendGates (length (l .wires)) (pairGates first second) (initial 0 (length (l .wires)))) (pairGates first second) 0 s
+        l l₁
     unfolding initial from
     start-run =
+        let n = length (l .wires) in
         let gs = gatesIn first in
         let hs = gatesIn second in
         let rooms : tally roomFor (pairGates first second) ≡ room gs hs =
@@ -510,42 +575,42 @@ module _
         in
         let within = within-append n gs (inverseList hs) (fits .within) (within-inverse n hs (fits .within′)) in
         record {
-          qubits = starts .qubits;
-          makes = rw (shows-sum starts 0 refl);
+          makes = rw (leaves-sum starts (long .wires) 0 refl);
           terms = rw (stored-held (starts .terms)) (starts .terms);
           fits =
               record {
-                few = rw (starts .qubits) (fits .few);
-                started = omega (arith, starts .qubits, starts .next);
-                within = rw (starts .qubits) within;
+                flips = omega (arith, long .flips, long .wires, flips);
+                few = rw (long .wires) (fits .few);
+                started = omega (arith, long .wires, starts .next);
+                within = rw (long .wires) within;
                 variables = omega (arith, starts .next, fits .variables);
-                sets = omega (arith, starts .terms .counted, fits .sets);
-                coeffs = omega (arith, starts .terms .counted, fits .coeffs);
+                sets = omega (arith, starts .terms .counted, fits .sets, long .sets);
+                coeffs = omega (arith, starts .terms .counted, fits .coeffs, long .coeffs);
               };
+          long = long;
         }
 
     -- the first list fits
-    pub start-fits : Fitting s (gatesIn first) ss cs
+    pub start-fits : Fits s (gatesIn first) l₁
     start-fits = first-fit (gatesIn first) (inverseList (gatesIn second)) start-run
 
     -- after the first list
     pub half-run :
-        {r : Sum} {ss₁ cs₁ : List ℕ} →
-        Shows (appendGates (s .n) (gatesIn first) (sumOf s ss cs)) (s .n) (s .phase .count) r ss cs ss₁ cs₁ →
-        length ss₁ ≡ length ss →
-        length cs₁ ≡ length cs →
-        ToRun (appendGates n (pairGates first second) (initial 0 n)) (inverseList (gatesIn second)) n 0 r ss cs ss₁ cs₁
-    half-run shows e f = some-run (gatesIn first) (inverseList (gatesIn second)) s start-run shows e f
+        {r : Run} {l₂ : Lent} →
+        Leaves (appendGates (length (l₁ .wires)) (gatesIn first) (sumIn s l₁)) (s .phase .count) r l₁ l₂ →
+        AsLong l₁ l₂ →
+        ToRun (appendGates (length (l .wires)) (pairGates first second) (initial 0 (length (l .wires))))
+        (inverseList (gatesIn second)) 0 r l l₂
+    half-run leaves long = some-run (gatesIn first) (inverseList (gatesIn second)) s start-run leaves long
 
 -- after the last of the gates
 pub last-run :
-    {u : PathSum} (gs : List Gate) {n m : ℕ} (s : Sum) {r : Sum} {ss cs ss₁ cs₁ ss₂ cs₂ : List ℕ} →
-    ToRun u gs n m s ss cs ss₁ cs₁ →
-    Shows (appendGates (s .n) gs (sumOf s ss₁ cs₁)) (s .n) (s .phase .count) r ss₁ cs₁ ss₂ cs₂ →
-    length ss₂ ≡ length ss₁ →
-    length cs₂ ≡ length cs₁ →
-    ToRun u [] n m r ss cs ss₂ cs₂
-last-run gs s run shows e f = some-run gs [] s (rw append-nil run) shows e f
+    {u : PathSum} (gs : List Gate) {m : ℕ} (s : Run) {r : Run} {l l₁ l₂ : Lent} →
+    ToRun u gs m s l l₁ →
+    Leaves (appendGates (length (l₁ .wires)) gs (sumIn s l₁)) (s .phase .count) r l₁ l₂ →
+    AsLong l₁ l₂ →
+    ToRun u [] m r l l₂
+last-run gs s run leaves long = some-run gs [] s (rw append-nil run) leaves long
 
 -- terms stored where no place was in use, with their own places taken to have been in use
 stored-fresh :
@@ -563,24 +628,57 @@ stored-fresh {ts} {r} {ss} {cs} e =
     same xs old l = over-grown 0 xs old (omega arith) ∙ sym (over-grown (length ts) xs old l)
 
 -- all gates run on the sum of no gates, and the terms merged, make the built sum
-pub built-shows :
-    (n : ℕ) (gs : List Gate) {s : Sum} {k : ℕ} {ss cs ss₁ cs₁ ss₂ cs₂ : List ℕ} →
-    ToRun (appendGates n gs (initial 0 n)) [] n 0 s ss cs ss₁ cs₁ →
-    Stored (s .phase .count) (merged (held (s .phase .count) ss₁ cs₁)) k ss₁ cs₁ ss₂ cs₂ →
-    Shows (build 0 n gs) n (appended n gs)
-    (record { n = n; next = s .next; wires = s .wires; phase = record { constant = s .phase .constant; count = k } }) ss cs ss₂
-    cs₂
+pub built-leaves :
+    (gs : List Gate) {s : Run} {k : ℕ} {l l₁ : Lent} {ss cs : List ℕ} →
+    ToRun (appendGates (length (l .wires)) gs (initial 0 (length (l .wires)))) [] 0 s l l₁ →
+    Stored (s .phase .count) (merged (held (s .phase .count) (l₁ .sets) (l₁ .coeffs))) k (l₁ .sets) (l₁ .coeffs) ss cs →
+    Leaves (build 0 (length (l .wires)) gs) (appended (length (l .wires)) gs)
+    (record { next = s .next; phase = record { constant = s .phase .constant; count = k } }) l
+    (slices (l₁ .wires) (l₁ .flips) ss cs)
 unfolding withPhase
-built-shows n gs {s} run stored =
+built-leaves gs {s} {l = l} run stored =
+    let n = length (l .wires) in
     let u = appendGates n gs (initial 0 n) in
-    let shows = all-run run in
+    let leaves = all-run run in
     let fewer = length-rebuild of 0 (u .phase .terms) in
-    let again = rw (stored-held (shows .terms)) at stored in
+    let again = rw (stored-held (leaves .terms)) at stored in
     rw (← merged-build 0 n gs)
     (record {
-      qubits = refl;
-      next = shows .next;
-      constant = shows .constant;
-      wires = shows .wires;
-      terms = stored-again (stored-fresh (shows .terms)) again (omega arith) fewer;
+      next = leaves .next;
+      constant = leaves .constant;
+      wires = leaves .wires;
+      terms = stored-again (stored-fresh (leaves .terms)) again (omega arith) fewer;
     })
+
+-- what was built in the first n places of longer wires
+pub widened :
+    (gs : List Gate) (n : ℕ) (r : Run) {l : Lent} (ws ws₁ : List ℕ) (fs fs₁ : List Bool) {ss cs : List ℕ} →
+    length (l .wires) ≡ n →
+    length ws ≡ n →
+    length fs ≡ n →
+    Builds gs r l (slices ws fs ss cs) →
+    Shows (build 0 n gs) n (appended n gs)
+    (record { n = n; next = r .next; wires = record { sets = ws ++ ws₁; flips = fs ++ fs₁ }; phase = r .phase }) (l .sets)
+    (l .coeffs) ss cs
+widened gs n r ws ws₁ fs fs₁ k e f leaves =
+    record {
+      qubits = refl;
+      next = rw k at (leaves .next);
+      constant = rw k at (leaves .constant);
+      wires = rw (front n ws ws₁ e, front n fs fs₁ f) (rw k at (leaves .wires));
+      terms = rw k at (leaves .terms);
+    }
+  where
+    front : {A : Type 0} (m : ℕ) (xs ys : List A) → length xs ≡ m → take m (xs ++ ys) ≡ xs
+    front m xs ys h = rw (← h) (take-append-seam xs ys)
+
+-- a sum and its workspaces stand for the path sum that they show, where its live variables are the next ones
+pub shows-sum :
+    {u : PathSum} {n m : ℕ} {r : Sum} {ss cs ss′ cs′ : List ℕ} →
+    Shows u n m r ss cs ss′ cs′ →
+    (k : ℕ) →
+    u .live ≡ from n k →
+    sumOf r ss′ cs′ ≡ u
+shows-sum {u} {n} {m} {r} {ss} {cs} {ss′} {cs′} shows k live =
+    let many : r .next - r .n ≡ k = omega (arith, shows .next, shows .qubits, ap length live, from-length n k) in
+    rw (many, shows .qubits, shows .constant, stored-held (shows .terms), shows .wires, ← live)

@@ -1,25 +1,24 @@
 -- Laws for putting gates one behind the other: one wire of a sum under construction, one set anew, and the wires that a sum
--- starts with; gates by their bytes; terms put behind terms.
+-- starts with; terms put behind terms.
 -- Assumes nothing.
-use mathlib.Core.Path.{_≡_, refl, _∙_}
+use mathlib.Core.Path.{_≡_, refl, ap, _∙_}
 use Prim.Native.Nat.{ℕ, zero, suc, _+_, _-_, _≤_, _<_}
 use native.Mathlib.Nat.{le-of-suc-le-suc, zero-add}
 use native.Mathlib.Numerals.{add-one}
 use native.Mathlib.Omega.{arith}
-use mathlib.Core.Bool.{Bool, false}
+use mathlib.Core.Bool.{Bool, false, not, xor}
 use mathlib.Core.List.{List, [], _∷_, _++_, map, append-assoc, map-append}
-use lib.ListN.{length, getD, set, take, replicate, length-append}
-use lib.Seq.{length-take-le, take-suc-set, getD-take}
-use borrow.Author.Tests.{lt-leb}
-use Rattle.record_format.specs.Gate.{SWAP, two, gateOf, raw, twoQubitKinds}
+use lib.ListN.{length, getD, set, take, replicate, length-append, replicate-append-replicate}
+use lib.Seq.{length-take-le, take-all, take-suc-set, getD-take}
 use Rattle.amplitude.proofs.BitLaws.{bit-zero}
-use Rattle.phase_sum_meaning.specs.Sets.{single, from}
-use Rattle.phase_sum_meaning.specs.Parity.{Parity, of, _⊕_}
+use Rattle.amplitude.proofs.XorLaws.{xor-trueˡ}
+use Rattle.phase_sum_meaning.specs.Sets.{_△_, single, from}
+use Rattle.phase_sum_meaning.specs.Parity.{Parity, of, _⊕_, complement}
 use Rattle.phase_sum_meaning.specs.Phase.{Term}
 use Rattle.phase_sum_meaning.specs.Building.{input, initial}
 use Rattle.phase_sum_terms.specs.Workspace.{held, zipWires, wiresOf, parityOf, Stored}
 use Rattle.phase_sum_terms.specs.Unmerged.{phaseTerm, productTerms}
-use Rattle.phase_sum_terms.specs.Inner.{phaseConstant, productConstant, diagonalOf, movedWires}
+use Rattle.phase_sum_terms.specs.Inner.{phaseConstant, productConstant}
 use Rattle.phase_sum_terms.specs.declared.Wire.{Wire}
 use Rattle.phase_sum_terms.specs.declared.Wires.{Wires}
 use Rattle.phase_sum_meaning.proofs.VariableLaws.{from-snoc}
@@ -33,7 +32,7 @@ take-set (suc n) (x ∷ xs) zero a = refl
 take-set (suc n) (x ∷ xs) (suc q) a = rw (take-set n xs q a)
 
 -- parities by their sets and constants, with one of each set anew
-zip-set :
+pub zip-set :
     (ss : List ℕ) (bs : List Bool) (q s : ℕ) (b : Bool) →
     zipWires (set ss q s) (set bs q b) ≡ set (zipWires ss bs) q (record { vars = s; flipped = b })
 unfolding zipWires
@@ -44,7 +43,7 @@ zip-set (x ∷ ss) (y ∷ bs) zero s b = refl
 zip-set (x ∷ ss) (y ∷ bs) (suc q) s b = rw (zip-set ss bs q s b)
 
 -- one of the parities by their sets and constants
-zip-at :
+pub zip-at :
     (ss : List ℕ) (bs : List Bool) (q : ℕ) → q < length ss → q < length bs →
     _≡_ {A = Parity} (record { vars = getD ss q 0; flipped = getD bs q false }) (getD (zipWires ss bs) q (of 0))
 unfolding zipWires
@@ -52,6 +51,35 @@ zip-at [] bs q l k = absurd (omega arith)
 zip-at (x ∷ ss) [] q l k = absurd (omega arith)
 zip-at (x ∷ ss) (y ∷ bs) zero l k = refl
 zip-at (x ∷ ss) (y ∷ bs) (suc q) l k = zip-at ss bs q (le-of-suc-le-suc l) (le-of-suc-le-suc k)
+
+-- one complemented
+pub zip-flip :
+    (ss : List ℕ) (bs : List Bool) (q : ℕ) → q < length ss → q < length bs →
+    zipWires ss (set bs q (not (getD bs q false))) ≡ set (zipWires ss bs) q (complement (getD (zipWires ss bs) q (of 0)))
+unfolding zipWires complement
+zip-flip [] bs q l k = absurd (omega arith)
+zip-flip (x ∷ ss) [] q l k = absurd (omega arith)
+zip-flip (x ∷ ss) (y ∷ bs) zero l k = rw (xor-trueˡ y)
+zip-flip (x ∷ ss) (y ∷ bs) (suc q) l k = rw (zip-flip ss bs q (le-of-suc-le-suc l) (le-of-suc-le-suc k))
+
+-- one added to another
+pub zip-add :
+    (ss : List ℕ) (bs : List Bool) (c t : ℕ) →
+    c < length ss → c < length bs → t < length ss → t < length bs →
+    zipWires (set ss t (getD ss t 0 △ getD ss c 0)) (set bs t (xor (getD bs t false) (getD bs c false)))
+    ≡ set (zipWires ss bs) t (getD (zipWires ss bs) t (of 0) ⊕ getD (zipWires ss bs) c (of 0))
+unfolding _⊕_
+zip-add ss bs c t lc kc lt kt = rw (← zip-at ss bs t lt kt, ← zip-at ss bs c lc kc) (zip-set ss bs t _ _)
+
+-- two exchanged
+pub zip-swap :
+    (ss : List ℕ) (bs : List Bool) (a b : ℕ) →
+    a < length ss → a < length bs → b < length ss → b < length bs →
+    zipWires (set (set ss a (getD ss b 0)) b (getD ss a 0)) (set (set bs a (getD bs b false)) b (getD bs a false))
+    ≡ set (set (zipWires ss bs) a (getD (zipWires ss bs) b (of 0))) b (getD (zipWires ss bs) a (of 0))
+zip-swap ss bs a b la ka lb kb =
+    rw (← zip-at ss bs a la ka, ← zip-at ss bs b lb kb, ← zip-set ss bs a (getD ss b 0) (getD bs b false))
+    (zip-set (set ss a (getD ss b 0)) (set bs a (getD bs b false)) b _ _)
 
 -- the wires with wire q set anew
 pub wires-set :
@@ -72,12 +100,10 @@ wires-at n ws q l h k =
     (rw (length-take-le n (ws .sets) h) l) (rw (length-take-le n (ws .flips) k) l))
 
 -- the sets of the inputs from a on, none complemented, are those inputs' parities
-zip-inputs :
-    (a n k : ℕ) → n ≤ k → zipWires (map single (from a n)) (take n (replicate k false)) ≡ map (input 0) (from a n)
+zip-inputs : (a n : ℕ) → zipWires (map single (from a n)) (replicate n false) ≡ map (input 0) (from a n)
 unfolding zipWires from input
-zip-inputs a zero k l = refl
-zip-inputs a (suc n) zero l = absurd (omega arith)
-zip-inputs a (suc n) (suc k) l = rw (bit-zero a, zip-inputs (suc a) n k (le-of-suc-le-suc l))
+zip-inputs a zero = refl
+zip-inputs a (suc n) = rw (bit-zero a, zip-inputs (suc a) n)
 
 -- the sets of the first q inputs, and one more
 pub inputs-more :
@@ -87,54 +113,27 @@ pub inputs-more :
     take (q + 1) (set ss q (single q)) ≡ map single (from 0 (q + 1))
 inputs-more q ss l e = rw (add-one q, take-suc-set ss q (single q) l, from-snoc 0 q, zero-add q, map-append, e)
 
+-- one constant more that is 0
+pub flips-more :
+    (q : ℕ) (fs : List Bool) →
+    q < length fs →
+    take q fs ≡ replicate q false →
+    take (q + 1) (set fs q false) ≡ replicate (q + 1) false
+flips-more q fs l e =
+    rw (add-one q, take-suc-set fs q false l, e)
+    (replicate-append-replicate {A = Bool} q 1 false ∙ ap (λ (k : ℕ). replicate k false) (add-one q))
+
 -- the sets of all inputs, none complemented, are the wires that a sum starts with
 pub inputs-all :
-    (n : ℕ) (ws : Wires) → n ≤ 16 → take n (ws .sets) ≡ map single (from 0 n) → ws .flips ≡ replicate 16 false →
-    wiresOf n ws ≡ initial 0 n .wires
+    (n : ℕ) (ws : List ℕ) (fs : List Bool) →
+    length ws ≡ n →
+    length fs ≡ n →
+    take n ws ≡ map single (from 0 n) →
+    take n fs ≡ replicate n false →
+    zipWires ws fs ≡ initial 0 n .wires
 unfolding initial
-inputs-all n ws l e f = rw (e, f) (zip-inputs 0 n 16 l)
-
--- bytes of a kind above CZ stand for SWAP
-pub swap-raw : (k a b : ℕ) → 9 < k → gateOf (raw k a b) ≡ two SWAP a b
-unfolding gateOf
-swap-raw k a b l = rw (lt-leb k 7 (omega arith)) (rw (third (k - 8) (omega arith)))
-  where
-    third : (j : ℕ) → 1 < j → getD twoQubitKinds j SWAP ≡ SWAP
-    third zero h = absurd (omega arith)
-    third (suc zero) h = absurd (omega arith)
-    third (suc (suc zero)) h = refl
-    third (suc (suc (suc j))) h = refl
-
--- bytes of another kind, X and CX apart, leave the wires
-pub still-raw :
-    (k a b : ℕ) (ws : List Parity) → (k ≡ 0 → ⊥) → (k ≡ 8 → ⊥) → k ≤ 9 → ws ≡ movedWires (gateOf (raw k a b)) ws
-unfolding gateOf movedWires
-still-raw zero a b ws x cx l = absurd (x refl)
-still-raw (suc zero) a b ws x cx l = refl
-still-raw (suc (suc zero)) a b ws x cx l = refl
-still-raw (suc (suc (suc zero))) a b ws x cx l = refl
-still-raw (suc (suc (suc (suc zero)))) a b ws x cx l = refl
-still-raw (suc (suc (suc (suc (suc zero))))) a b ws x cx l = refl
-still-raw (suc (suc (suc (suc (suc (suc zero)))))) a b ws x cx l = refl
-still-raw (suc (suc (suc (suc (suc (suc (suc zero))))))) a b ws x cx l = refl
-still-raw (suc (suc (suc (suc (suc (suc (suc (suc zero)))))))) a b ws x cx l = absurd (cx refl)
-still-raw (suc (suc (suc (suc (suc (suc (suc (suc (suc zero))))))))) a b ws x cx l = refl
-still-raw (suc (suc (suc (suc (suc (suc (suc (suc (suc (suc k)))))))))) a b ws x cx l = absurd (omega arith)
-
--- bytes of any other kind than Z, S, T and the inverses of S and T put no phase of their own
-pub other-raw :
-    (k a b : ℕ) → (k ≡ 2 → ⊥) → (k ≡ 3 → ⊥) → (k ≡ 4 → ⊥) → (k ≡ 5 → ⊥) → (k ≡ 6 → ⊥) → 0 ≡ diagonalOf (gateOf (raw k a b))
-unfolding gateOf diagonalOf
-other-raw zero a b z s s† t t† = refl
-other-raw (suc zero) a b z s s† t t† = refl
-other-raw (suc (suc zero)) a b z s s† t t† = absurd (z refl)
-other-raw (suc (suc (suc zero))) a b z s s† t t† = absurd (s refl)
-other-raw (suc (suc (suc (suc zero)))) a b z s s† t t† = absurd (s† refl)
-other-raw (suc (suc (suc (suc (suc zero))))) a b z s s† t t† = absurd (t refl)
-other-raw (suc (suc (suc (suc (suc (suc zero)))))) a b z s s† t t† = absurd (t† refl)
-other-raw (suc (suc (suc (suc (suc (suc (suc zero))))))) a b z s s† t t† = refl
-other-raw (suc (suc (suc (suc (suc (suc (suc (suc k)))))))) a b z s s† t t† =
-    rw (lt-leb (suc (suc (suc (suc (suc (suc (suc (suc k)))))))) 7 (omega arith))
+inputs-all n ws fs i j e f =
+    rw (← take-all n ws (omega (arith, i)), ← take-all n fs (omega (arith, j)), e, f) (zip-inputs 0 n)
 
 -- terms stored, and then more behind them
 stored-more :

@@ -2,19 +2,21 @@
 -- does not matter (proofs/Merging.antt).
 -- Assumes nothing.
 use mathlib.Core.Path.{_≡_}
-use Prim.Native.Nat.{ℕ, _+_, _%_, _≤_}
-use mathlib.Core.Bool.{cond}
+use Prim.Native.Nat.{ℕ, _+_, _-_, _%_, _≤_}
+use mathlib.Core.Bool.{Bool, cond}
 use mathlib.Core.List.{List, [], _∷_, _++_, map}
 use lib.ListN.{length}
+use lib.Dec.{eqb}
 use Rattle.record_format.specs.Gate.{Gate, one, two, X, Y, Z, S, S†, T, T†, H, CX, CZ, SWAP, AllWithin, gateOf, inverseList}
 use Rattle.record_format.specs.Reading.{raws}
 use Rattle.amplitude.specs.Circuit.{tally, hGates}
-use Rattle.phase_sum_meaning.specs.Sets.{single}
+use Rattle.phase_sum_meaning.specs.Sets.{single, from}
 use Rattle.phase_sum_meaning.specs.Parity.{Parity, of, _⊕_}
 use Rattle.phase_sum_meaning.specs.Phase.{Term, term, minus}
-use Rattle.phase_sum_meaning.specs.Building.{PathSum, initial, wire, gate}
+use Rattle.phase_sum_meaning.specs.Building.{PathSum, initial, wire, gate, build}
 use Rattle.phase_sum_meaning.specs.Room.{roomFor, room, mostVariables}
-use Rattle.phase_sum_terms.specs.Workspace.{Stored, wiresOf}
+use Rattle.phase_sum_terms.specs.Workspace.{Stored, Lent, phaseOf, wiresOf, wiresIn}
+use Rattle.phase_sum_terms.specs.declared.Run.{Run}
 use Rattle.phase_sum_terms.specs.declared.Sum.{Sum}
 
 -- the gates that bytes stand for, three bytes a gate
@@ -61,19 +63,56 @@ unfoldable pub appendGates : ℕ → List Gate → PathSum → PathSum
 appendGates n [] s = s
 appendGates n (g ∷ gs) s = appendGates n gs (appendGate n g s)
 
--- what running gates on a sum asks for: at most 16 qubits, the gates on these, at most 64 variables in the end, and room for the
+-- the path sum that a sum under construction stands for, its terms in the order in which they stand
+abbrev pub sumIn : Run → Lent → PathSum
+sumIn r l =
+    record {
+      phase = phaseOf (r .phase) (l .sets) (l .coeffs);
+      wires = wiresIn l;
+      live = from (length (l .wires)) (r .next - length (l .wires));
+    }
+
+-- what running gates asks for: a place a qubit, at most 16 qubits, the gates on these, at most 64 variables in the end, and room for the
 -- terms in both workspaces
-pub record Fitting (s : Sum) (gs : List Gate) (ss cs : List ℕ) : Type 0 where
-  pub few : s .n ≤ 16
-  pub started : s .n ≤ s .next
-  pub within : AllWithin (s .n) gs
-  pub variables : s .next + hGates gs ≤ mostVariables
-  pub sets : s .phase .count + tally roomFor gs ≤ length ss
-  pub coeffs : s .phase .count + tally roomFor gs ≤ length cs
+pub record Fits (r : Run) (gs : List Gate) (l : Lent) : Type 0 where
+  pub flips : length (l .flips) ≡ length (l .wires)
+  pub few : length (l .wires) ≤ 16
+  pub started : length (l .wires) ≤ r .next
+  pub within : AllWithin (length (l .wires)) gs
+  pub variables : r .next + hGates gs ≤ mostVariables
+  pub sets : r .phase .count + tally roomFor gs ≤ length (l .sets)
+  pub coeffs : r .phase .count + tally roomFor gs ≤ length (l .coeffs)
+
+-- what a call leaves that was lent l, of which m places of the workspaces were in use: the path sum u
+pub record Leaves (u : PathSum) (m : ℕ) (r : Run) (l l′ : Lent) : Type 0 where
+  pub next : r .next ≡ length (l .wires) + length (u .live)
+  pub constant : r .phase .constant ≡ u .phase .constant
+  pub wires : wiresIn l′ ≡ u .wires
+  pub terms : Stored m (u .phase .terms) (r .phase .count) (l .sets) (l .coeffs) (l′ .sets) (l′ .coeffs)
+
+-- what a call leaves that ran the gate g on the sum s
+abbrev pub Runs : Gate → Run → Run → Lent → Lent → Type 0
+Runs g s r l l′ = Leaves (appendGate (length (l .wires)) g (sumIn s l)) (s .phase .count) r l l′
+
+-- what a call leaves that ran the gates gs
+abbrev pub RunsAll : List Gate → Run → Run → Lent → Lent → Type 0
+RunsAll gs s r l l′ = Leaves (appendGates (length (l .wires)) gs (sumIn s l)) (s .phase .count) r l l′
+
+-- a gate that adds no term only moves wires: X, CX, SWAP
+abbrev pub movesOnly : Gate → Bool
+movesOnly g = eqb (roomFor g) 0
+
+-- running g on a sum with the wires ws gives it the wires ws′ and changes nothing else
+abbrev pub Moves : Gate → List Parity → List Parity → Type 0
+Moves g ws ws′ = (n : ℕ) (s : PathSum) → s .wires ≡ ws → appendGate n g s ≡ record { phase = s .phase; wires = ws′; live = s .live }
 
 -- how many terms gates add, unmerged
 abbrev pub appended : ℕ → List Gate → ℕ
 appended n gs = length (appendGates n gs (initial 0 n) .phase .terms)
+
+-- what a call leaves that built the sum of the gates gs
+abbrev pub Builds : List Gate → Run → Lent → Lent → Type 0
+Builds gs r l l′ = Leaves (build 0 (length (l .wires)) gs) (appended (length (l .wires)) gs) r l l′
 
 -- what building asks for: the bytes of two lists on at most 16 qubits, with at most 64 variables together and room for the terms
 pub record Buildable (n : ℕ) (first second ss cs : List ℕ) : Type 0 where

@@ -6,6 +6,8 @@ use Prim.Native.Nat.{ℕ, _-_}
 use mathlib.Core.Bool.{Bool}
 use mathlib.Core.List.{List, [], _∷_, _++_, map}
 use lib.ListN.{length, take, drop, replicate}
+use denote.Ref.{RefT, now}
+use denote.Triple.Both.{Both}
 use Rattle.phase_sum_meaning.specs.Sets.{from}
 use Rattle.phase_sum_meaning.specs.Parity.{Parity, of}
 use Rattle.phase_sum_meaning.specs.Phase as phase
@@ -88,3 +90,34 @@ sumOf s sets coeffs =
       wires = wiresOf (s .n) (s .wires);
       live = from (s .n) (s .next - s .n);
     }
+
+-- what the four slices that a sum is lent hold: its wires' sets and constant bits, one place a qubit, and its terms' sets and coefficients
+pub record Lent : Type 0 where
+  pub wires : List ℕ
+  pub flips : List Bool
+  pub sets : List ℕ
+  pub coeffs : List ℕ
+
+-- the four by their lists
+abbrev pub slices : List ℕ → List Bool → List ℕ → List ℕ → Lent
+slices ws fs ss cs = record { wires = ws; flips = fs; sets = ss; coeffs = cs }
+
+-- the four by their references
+abbrev pub lent : RefT (List ℕ) → RefT (List Bool) → RefT (List ℕ) → RefT (List ℕ) → Lent
+lent ws fs ss cs = slices (now ws) (now fs) (now ss) (now cs)
+
+-- a reference as a call finds it and as it leaves it
+abbrev Passed : Type 0 → Type 0
+Passed A = Both (RefT A) (RefT A)
+
+-- what they hold before a call
+abbrev pub before : Passed (List ℕ) → Passed (List Bool) → Passed (List ℕ) → Passed (List ℕ) → Lent
+before ws fs ss cs = lent (ws .entry) (fs .entry) (ss .entry) (cs .entry)
+
+-- what they hold after it
+abbrev pub after : Passed (List ℕ) → Passed (List Bool) → Passed (List ℕ) → Passed (List ℕ) → Lent
+after ws fs ss cs = lent (ws .exit) (fs .exit) (ss .exit) (cs .exit)
+
+-- the parities of the wires
+abbrev pub wiresIn : Lent → List Parity
+wiresIn l = zipWires (l .wires) (l .flips)

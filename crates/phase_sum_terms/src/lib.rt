@@ -35,3 +35,11 @@ pub struct Sum {
     pub wires: Wires,
     pub phase: Phase,
 }
+
+// A sum under construction. Its wires stand in two lent slices, their sets in one and their constant bits in the other, one place a qubit;
+// its terms stand in the workspaces.
+pub struct Run {
+    // the next path variable's number
+    pub next: u32,
+    pub phase: Phase,
+}

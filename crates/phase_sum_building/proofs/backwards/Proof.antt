@@ -1,100 +1,144 @@
--- `phase_sum::building::backwards` meets its contract. The loop's invariant: the gates before byte i, inverted and run backwards
--- on the sum so far, give the whole sum, and they fit. The measure is i.
+-- `phase_sum_building::backwards` meets its contract. The loop's invariant: the gates before place i, backwards and inverted, are still to run.
 -- Assumes nothing.
-use mathlib.Core.Path.{_≡_, refl, _∙_}
+use mathlib.Core.Path.{_≡_, refl, sym, _∙_}
 use mathlib.Core.List.{[], _∷_}
-use Prim.Native.Nat.{_-_, _%_, _≤_}
+use Prim.Native.Nat.{_+_, _-_, _%_, _≤_}
 use native.Mathlib.Omega.{arith}
-use lib.ListN.{length, take}
+use lib.ListN.{length, take, getD}
 use lib.Seq.{take-length}
 use denote.Ref.{now}
 use Rattle.record_format.specs.Gate.{inverseList}
 use Rattle.record_format.specs.Reading.{raws}
-use Rattle.phase_sum_terms.specs.Workspace.{sumOf}
-use Rattle.phase_sum_terms.specs.Unmerged.{gatesIn, appendGates}
-use Rattle.phase_sum_terms.proofs.Running.{ToRun, none-run, one-run, all-run, first-fit, inverseAt, inverse-before}
+use Rattle.phase_sum_terms.specs.Workspace.{slices, lent}
+use Rattle.phase_sum_terms.specs.Unmerged.{gatesIn, appendGates, sumIn}
+use Rattle.phase_sum_terms.proofs.Running.{ToRun, none-run, one-run, all-run, first-fit, moves-leaves, gateAt, inverseAt, inverse-before, inverse-moves, inverse-stays}
 use Rattle.phase_sum_building.proofs.backwards.Statement.{statement}
 use Rattle.phase_sum_building.proofs.backwards.Tie as tie
 
 abbrev Inv-loop : tie.InvT-loop
-Inv-loop gates sets₀ coeffs₀ now₀ i₀ sets coeffs now i =
+Inv-loop gates ws₀ fs₀ sets₀ coeffs₀ now₀ i₀ ws fs sets coeffs now i =
     (i ≤ length gates)
     × (i % 3 ≡ 0)
-    × (length sets ≡ length sets₀)
-    × (length coeffs ≡ length coeffs₀)
-    × ToRun (appendGates (now₀ .n) (inverseList (gatesIn gates)) (sumOf now₀ sets₀ coeffs₀))
-    (inverseList (gatesIn (take i gates))) (now₀ .n) (now₀ .phase .count) now sets₀ coeffs₀ sets coeffs
+    × ToRun (appendGates (length ws₀) (inverseList (gatesIn gates)) (sumIn now₀ (slices ws₀ fs₀ sets₀ coeffs₀)))
+    (inverseList (gatesIn (take i gates))) (now₀ .phase .count) now (slices ws₀ fs₀ sets₀ coeffs₀) (slices ws fs sets coeffs)
 
 abbrev μ-loop : tie.MeasureT-loop
-μ-loop gates sets₀ coeffs₀ now₀ i₀ sets coeffs now i = i
+μ-loop gates ws₀ fs₀ sets₀ coeffs₀ now₀ i₀ ws fs sets coeffs now i = i
 
 loop-holds : tie.Need-loop-holds Inv-loop μ-loop
 loop-holds c =
-    let at-start = c .before .before .before in
-    let a = at-start .args in
-    let none = none-run (a .sum) (inverseList (gatesIn (now (a .gates)))) (now (a .sets)) (now (a .coeffs)) (at-start .pre .1) in
-    (omega arith, omega (arith, at-start .pre .0), refl, refl, rw (take-length (now (a .gates))) none)
+    let a = c .before .before .before .before .before .args in
+    let bytes = now (a .gates) in
+    let none = none-run (a .run) (inverseList (gatesIn bytes)) (lent (a .ws) (a .fs) (a .sets) (a .coeffs)) (c .before .before .before .before .before .pre .1) in
+    (omega arith, omega (arith, c .before .before .before .before .before .pre .0), rw (take-length bytes) none)
 
 sub-i : tie.Need-sub-i Inv-loop μ-loop
 sub-i c = omega arith
 
-shared-slice-read-inverse-kind : tie.Need-shared-slice-read-inverse-kind Inv-loop μ-loop
-shared-slice-read-inverse-kind c = omega arith
+shared-slice-read-kind : tie.Need-shared-slice-read-kind Inv-loop μ-loop
+shared-slice-read-kind c = omega arith
+
+add-a : tie.Need-add-a Inv-loop μ-loop
+add-a c = omega arith
+
+shared-slice-read-a : tie.Need-shared-slice-read-a Inv-loop μ-loop
+shared-slice-read-a c = omega arith
+
+add-b : tie.Need-add-b Inv-loop μ-loop
+add-b c = omega arith
+
+shared-slice-read-b : tie.Need-shared-slice-read-b Inv-loop μ-loop
+shared-slice-read-b c = omega arith
+
+moves-requires : tie.Need-moves-requires Inv-loop μ-loop
+moves-requires c κs = tt
+
+move-wires-requires : tie.Need-move-wires-requires Inv-loop μ-loop
+move-wires-requires c κs =
+    let loop = c .before .before .before .before .before .before .before .before .loop in
+    let bytes = now (c .before .before .before .before .before .before .before .before .before .before .before .before .before .before .args .gates) in
+    let i = loop .i in
+    let some = c .before .before .before .before .before .before .before .loop-test .taken in
+    let first = inverse-before bytes i (omega (arith, loop .inv .1)) (omega (arith, some)) (omega (arith, loop .inv .0)) in
+    let only = sym (c .before .before .before .moves .ensures (getD bytes (i - 3 + 1) 0) (getD bytes (i - 3 + 2) 0)) ∙ c .before .before .if1 .taken in
+    let same = inverse-moves (getD bytes (i - 3) 0) (getD bytes (i - 3 + 1) 0) (getD bytes (i - 3 + 2) 0) only in
+    let fits = first-fit (gateAt bytes (i - 3) ∷ []) _ (rw same at (rw first at (loop .inv .2))) in
+    (only, fits .within .0, fits .flips)
+
+loop-less : tie.Need-loop-less Inv-loop μ-loop
+loop-less c = omega (arith, c .before .before .before .before .before .before .before .before .before .before .before .before .loop-test .taken)
+
+loop-again : tie.Need-loop-again Inv-loop μ-loop
+loop-again c =
+    let loop = c .before .before .before .before .before .before .before .before .before .before .before .before .before .loop in
+    let bytes = now (c .before .before .before .before .before .before .before .before .before .before .before .before .before .before .before .before .before .before .before .args .gates) in
+    let i = loop .i in
+    let some = c .before .before .before .before .before .before .before .before .before .before .before .before .loop-test .taken in
+    let first = inverse-before bytes i (omega (arith, loop .inv .1)) (omega (arith, some)) (omega (arith, loop .inv .0)) in
+    let only = sym (c .before .before .before .before .before .before .before .before .moves .ensures (getD bytes (i - 3 + 1) 0) (getD bytes (i - 3 + 2) 0)) ∙ c .before .before .before .before .before .before .before .if1 .taken in
+    let same = inverse-moves (getD bytes (i - 3) 0) (getD bytes (i - 3 + 1) 0) (getD bytes (i - 3 + 2) 0) only in
+    let run = rw same at (rw first at (loop .inv .2)) in
+    let fits = first-fit (gateAt bytes (i - 3) ∷ []) _ run in
+    let moved = c .before .before .before .before .move-wires in
+    let kept = moved .kept .1 .1 .1 in
+    let leaves = moves-leaves (loop .now) (gateAt bytes (i - 3)) _ _ _ fits (moved .ensures) in
+    let left =
+    one-run (gateAt bytes (i - 3)) (inverseList (gatesIn (take (i - 3) bytes))) (loop .now) run leaves
+    (record { wires = kept .0; flips = kept .1 .0; sets = refl; coeffs = refl })
+    in
+    (omega (arith, some, loop .inv .0), omega (arith, some, loop .inv .1), left)
 
 inverse-kind-requires : tie.Need-inverse-kind-requires Inv-loop μ-loop
 inverse-kind-requires c κs = tt
 
-add-run-gate : tie.Need-add-run-gate Inv-loop μ-loop
-add-run-gate c = omega arith
-
-shared-slice-read-run-gate : tie.Need-shared-slice-read-run-gate Inv-loop μ-loop
-shared-slice-read-run-gate c = omega arith
-
-add-run-gate-2 : tie.Need-add-run-gate-2 Inv-loop μ-loop
-add-run-gate-2 c = omega arith
-
-shared-slice-read-run-gate-2 : tie.Need-shared-slice-read-run-gate-2 Inv-loop μ-loop
-shared-slice-read-run-gate-2 c = omega arith
-
 run-gate-requires : tie.Need-run-gate-requires Inv-loop μ-loop
 run-gate-requires c κs =
-    let at-kind = c .before .before .before .before in
-    let at-loop = at-kind .before .before .before in
-    let bytes = now (at-loop .before .before .before .before .args .gates) in
-    let inv = at-loop .loop .inv in
-    let first = inverse-before bytes (at-loop .loop .i) (omega arith) (omega arith) (omega arith) in
-    rw (at-kind .inverse-kind .ensures) (first-fit (inverseAt bytes (at-loop .loop .i - 3) ∷ []) _ (rw first at (inv .4)))
+    let loop = c .before .before .before .before .before .before .before .before .before .before .before .loop in
+    let bytes = now (c .before .before .before .before .before .before .before .before .before .before .before .before .before .before .before .before .before .args .gates) in
+    let i = loop .i in
+    let some = c .before .before .before .before .before .before .before .before .before .before .loop-test .taken in
+    let first = inverse-before bytes i (omega (arith, loop .inv .1)) (omega (arith, some)) (omega (arith, loop .inv .0)) in
+    let stays = sym (c .before .before .before .before .before .before .moves .ensures (getD bytes (i - 3 + 1) 0) (getD bytes (i - 3 + 2) 0)) ∙ c .before .before .before .before .before .if1 .left in
+    rw (c .before .before .before .before .inverse-kind .ensures) (
+      inverse-stays (getD bytes (i - 3) 0) (getD bytes (i - 3 + 1) 0) (getD bytes (i - 3 + 2) 0) stays,
+      first-fit (inverseAt bytes (i - 3) ∷ []) _ (rw first at (loop .inv .2)),
+    )
 
-loop-less : tie.Need-loop-less Inv-loop μ-loop
-loop-less c = omega arith
+loop-less-2 : tie.Need-loop-less-2 Inv-loop μ-loop
+loop-less-2 c = omega (arith, c .before .before .before .before .before .before .before .before .before .before .before .before .before .before .before .before .before .before .before .loop-test .taken)
 
-loop-again : tie.Need-loop-again Inv-loop μ-loop
-loop-again c =
-    let at-call = c .before .before .before .before in
-    let at-kind = at-call .before .before .before .before .before in
-    let at-loop = at-kind .before .before .before in
-    let bytes = now (at-loop .before .before .before .before .args .gates) in
-    let inv = at-loop .loop .inv in
-    let i = at-loop .loop .i in
-    let first = inverse-before bytes i (omega arith) (omega arith) (omega arith) in
-    let kept = at-call .run-gate .kept .1 .1 .1 .1 in
-    let run =
-    one-run (inverseAt bytes (i - 3)) (inverseList (gatesIn (take (i - 3) bytes))) (at-loop .loop .now) (rw first at (inv .4))
-    (rw (at-kind .inverse-kind .ensures) at (at-call .run-gate .ensures)) (kept .0) (kept .1 .0)
+loop-again-2 : tie.Need-loop-again-2 Inv-loop μ-loop
+loop-again-2 c =
+    let loop = c .before .before .before .before .before .before .before .before .before .before .before .before .before .before .before .before .before .before .before .before .loop in
+    let bytes = now (c .before .before .before .before .before .before .before .before .before .before .before .before .before .before .before .before .before .before .before .before .before .before .before .before .before .before .args .gates) in
+    let i = loop .i in
+    let some = c .before .before .before .before .before .before .before .before .before .before .before .before .before .before .before .before .before .before .before .loop-test .taken in
+    let first = inverse-before bytes i (omega (arith, loop .inv .1)) (omega (arith, some)) (omega (arith, loop .inv .0)) in
+    let kept = c .before .before .before .before .before .before .before .before .run-gate .kept .1 .1 .1 .1 in
+    let left =
+    one-run (inverseAt bytes (i - 3)) (inverseList (gatesIn (take (i - 3) bytes))) (loop .now) (rw first at (loop .inv .2))
+    (rw (c .before .before .before .before .before .before .before .before .before .before .before .before .before .inverse-kind .ensures) at (c .before .before .before .before .before .before .before .before .run-gate .ensures))
+    (record { wires = kept .0; flips = kept .1 .0; sets = kept .1 .1 .0; coeffs = kept .1 .1 .1 .0 })
     in
-    (omega arith, omega arith, kept .0 ∙ inv .2, kept .1 .0 ∙ inv .3, run)
+    (omega (arith, some, loop .inv .0), omega (arith, some, loop .inv .1), left)
 
 same-length : tie.Need-same-length Inv-loop μ-loop
-same-length c = c .before .loop .inv .2
+same-length c = c .before .loop .inv .2 .long .wires
 
 same-length-2 : tie.Need-same-length-2 Inv-loop μ-loop
-same-length-2 c = c .before .loop .inv .3
+same-length-2 c = c .before .loop .inv .2 .long .flips
+
+same-length-3 : tie.Need-same-length-3 Inv-loop μ-loop
+same-length-3 c = c .before .loop .inv .2 .long .sets
+
+same-length-4 : tie.Need-same-length-4 Inv-loop μ-loop
+same-length-4 c = c .before .loop .inv .2 .long .coeffs
 
 returns : tie.Need-returns Inv-loop μ-loop
 unfolding raws inverseList
 returns c =
     let done : c .before .loop .i ≡ 0 = omega arith in
-    all-run (rw done at (c .before .loop .inv .4))
+    all-run (rw done at (c .before .loop .inv .2))
 
 pub backwards-spec : {M : Type 1} → statement M
 backwards-spec =
@@ -104,15 +148,21 @@ backwards-spec =
     μ-loop
     loop-holds
     sub-i
-    shared-slice-read-inverse-kind
-    inverse-kind-requires
-    add-run-gate
-    shared-slice-read-run-gate
-    add-run-gate-2
-    shared-slice-read-run-gate-2
-    run-gate-requires
+    shared-slice-read-kind
+    add-a
+    shared-slice-read-a
+    add-b
+    shared-slice-read-b
+    moves-requires
+    move-wires-requires
     loop-less
     loop-again
+    inverse-kind-requires
+    run-gate-requires
+    loop-less-2
+    loop-again-2
     same-length
     same-length-2
+    same-length-3
+    same-length-4
     returns)

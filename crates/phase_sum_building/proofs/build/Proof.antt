@@ -1,58 +1,36 @@
--- `phase_sum::building::build` meets its contract. The first list and then the second inverted run on the sum of no gates, and
--- merging their terms at the end gives the built sum.
+-- `phase_sum_building::build` meets its contract.
 -- Assumes nothing.
-use borrow.Author.Needs.{needs}
-use mathlib.Core.List.{_++_}
-use native.Mathlib.Omega.{arith}
+use mathlib.Core.Path.{sym, _∙_}
+use Prim.Native.Nat.{ℕ}
+use mathlib.Core.Bool.{false}
+use lib.ListN.{replicate}
+use lib.Seq.{length-take-le}
 use denote.Ref.{now}
-use Rattle.record_format.specs.Gate.{inverseList}
-use Rattle.phase_sum_terms.specs.Unmerged.{gatesIn}
-use Rattle.phase_sum_terms.proofs.Running.{start-fits, half-run, last-run, built-shows}
+use Rattle.phase_sum_terms.specs.Unmerged.{joinedIn}
+use Rattle.phase_sum_terms.proofs.Running.{widened}
+use borrow.Author.Needs.{needs}
 use Rattle.phase_sum_building.proofs.build.Statement.{statement}
 use Rattle.phase_sum_building.proofs.build.Tie as tie
 
-start-requires : tie.Need-start-requires
-start-requires c κs = search needs
+array-borrow-prefix-ws : tie.Need-array-borrow-prefix-ws
+array-borrow-prefix-ws c = search needs
 
-forwards-requires : tie.Need-forwards-requires
-forwards-requires c κs =
-    let at-sum = c .before .before in
-    let at-start = at-sum .before .before .before .before .before in
-    let a = at-start .args in
-    let starts = at-sum .start .ensures (now (a .sets)) (now (a .coeffs)) in
-    (at-start .pre .threes, start-fits (now (a .first)) (now (a .second)) (at-start .pre) (at-sum .start .result) starts)
+slice-aggregate-build-in : tie.Need-slice-aggregate-build-in
+slice-aggregate-build-in c = sym (length-take-le (c .before .before .before .before .before .args .n) (replicate 16 0) (c .before .before .before .before .before .pre .few))
 
-backwards-requires : tie.Need-backwards-requires
-backwards-requires c κs =
-    let at-half = c .before .before .before .before .before .before in
-    let at-sum = at-half .before .before .before in
-    let at-start = at-sum .before .before .before .before .before in
-    let a = at-start .args in
-    let starts = at-sum .start .ensures (now (a .sets)) (now (a .coeffs)) in
-    let kept = at-half .forwards .kept .1 .1 in
-    let half =
-    half-run (now (a .first)) (now (a .second)) (at-start .pre) (at-sum .start .result) starts (at-half .forwards .ensures)
-    (kept .0) (kept .1 .0)
-    in
-    (at-start .pre .threes′, half .fits)
+array-borrow-prefix-fs : tie.Need-array-borrow-prefix-fs
+array-borrow-prefix-fs c = search needs
 
-canonical-requires : tie.Need-canonical-requires
-canonical-requires c κs =
-    let at-whole = c .before .before .before .before .before .before .before .before in
-    let at-half = at-whole .before .before .before .before .before .before .before in
-    let at-sum = at-half .before .before .before in
-    let at-start = at-sum .before .before .before .before .before in
-    let a = at-start .args in
-    let starts = at-sum .start .ensures (now (a .sets)) (now (a .coeffs)) in
-    let kept = at-half .forwards .kept .1 .1 in
-    let half =
-    half-run (now (a .first)) (now (a .second)) (at-start .pre) (at-sum .start .result) starts (at-half .forwards .ensures)
-    (kept .0) (kept .1 .0)
-    in
-    let kept = at-whole .backwards .kept .1 .1 in
-    let second = inverseList (gatesIn (now (a .second))) in
-    let whole = last-run second (at-half .forwards .result) half (at-whole .backwards .ensures) (kept .0) (kept .1 .0) in
-    (omega (arith, whole .fits .sets), omega (arith, whole .fits .coeffs))
+slice-aggregate-build-in-2 : tie.Need-slice-aggregate-build-in-2
+slice-aggregate-build-in-2 c = sym (length-take-le (c .before .before .before .before .before .before .args .n) (replicate 16 false) (c .before .before .before .before .before .before .pre .few))
+
+build-in-requires : tie.Need-build-in-requires
+build-in-requires c κs =
+    let n = c .before .before .before .before .before .before .before .before .args .n in
+    let pre = c .before .before .before .before .before .before .before .before .pre in
+    let e = length-take-le {A = ℕ} n (replicate 16 0) (pre .few) in
+    let f = length-take-le n (replicate 16 false) (pre .few) in
+    (f ∙ sym e, rw e pre)
 
 same-length : tie.Need-same-length
 same-length c = search needs
@@ -62,31 +40,27 @@ same-length-2 c = search needs
 
 returns : tie.Need-returns
 returns c =
-    let at-end = c .before .before .before .before in
-    let at-whole = at-end .before .before .before .before .before .before .before .before .before in
-    let at-half = at-whole .before .before .before .before .before .before .before in
-    let at-sum = at-half .before .before .before in
-    let at-start = at-sum .before .before .before .before .before in
-    let a = at-start .args in
-    let starts = at-sum .start .ensures (now (a .sets)) (now (a .coeffs)) in
-    let kept = at-half .forwards .kept .1 .1 in
-    let half =
-    half-run (now (a .first)) (now (a .second)) (at-start .pre) (at-sum .start .result) starts (at-half .forwards .ensures)
-    (kept .0) (kept .1 .0)
-    in
-    let kept = at-whole .backwards .kept .1 .1 in
-    let second = inverseList (gatesIn (now (a .second))) in
-    let whole = last-run second (at-half .forwards .result) half (at-whole .backwards .ensures) (kept .0) (kept .1 .0) in
-    built-shows (a .n) (gatesIn (now (a .first)) ++ second) whole (at-end .canonical .ensures)
+    let a = c .before .before .before .before .before .before .before .before .before .before .before .before .before .before .before .before .args in
+    let n = a .n in
+    let pre = c .before .before .before .before .before .before .before .before .before .before .before .before .before .before .before .before .pre in
+    let e = length-take-le {A = ℕ} n (replicate 16 0) (pre .few) in
+    let f = length-take-le n (replicate 16 false) (pre .few) in
+    let b = c .before .before .before .before .before .before .before .build-in in
+    widened (joinedIn (now (a .first)) (now (a .second))) n (b .result) (b .last .1 .1 .0) _ (b .last .1 .1 .1 .0) _
+    e
+    (b .kept .1 .1 .0 ∙ e)
+    (b .kept .1 .1 .1 .0 ∙ f)
+    (b .ensures)
 
 pub build-spec : {M : Type 1} → statement M
 build-spec =
     tie.close
     (tie.spec
-    start-requires
-    forwards-requires
-    backwards-requires
-    canonical-requires
+    array-borrow-prefix-ws
+    slice-aggregate-build-in
+    array-borrow-prefix-fs
+    slice-aggregate-build-in-2
+    build-in-requires
     same-length
     same-length-2
     returns)

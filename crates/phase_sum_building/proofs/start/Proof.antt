@@ -1,33 +1,37 @@
--- `phase_sum::building::start` meets its contract. The loop's invariant: the first q sets are those of the first q inputs, there
--- are 16 sets, and no wire is flipped. The measure is how many wires are left.
+-- `phase_sum_building::start` meets its contract. The loop's invariant: the first q wires are inputs, none complemented.
 -- Assumes nothing.
-use mathlib.Core.Path.{_≡_, refl, _∙_}
+use mathlib.Core.Path.{_≡_, refl, sym, _∙_}
 use Prim.Native.Nat.{_-_, _≤_, zero-le}
 use native.Mathlib.Omega.{arith}
 use mathlib.Core.Bool.{false}
 use mathlib.Core.List.{map}
 use lib.ListN.{length, take, replicate, length-set}
+use denote.Ref.{now}
 use Rattle.phase_sum_meaning.specs.Sets.{single, from}
 use Rattle.phase_sum_meaning.specs.Building.{initial}
 use Rattle.phase_sum_terms.specs.Workspace.{zipTerms}
 use Rattle.phase_sum_terms.proofs.Storing.{stored-same}
-use Rattle.phase_sum_terms.proofs.WireLaws.{inputs-more, inputs-all}
+use Rattle.phase_sum_terms.proofs.WireLaws.{inputs-more, flips-more, inputs-all}
 use Rattle.phase_sum_building.proofs.start.Statement.{statement}
 use Rattle.phase_sum_building.proofs.start.Tie as tie
 
 abbrev Inv-loop : tie.InvT-loop
-Inv-loop n wires₀ q₀ wires q =
+Inv-loop ws₀ fs₀ n q₀ ws fs q =
     (q ≤ n)
-    × (take q (wires .sets) ≡ map single (from 0 q))
-    × (length (wires .sets) ≡ 16)
-    × (wires .flips ≡ replicate 16 false)
+    × (n ≡ length ws₀)
+    × (n ≤ 16)
+    × (length ws ≡ n)
+    × (length fs ≡ n)
+    × (length fs₀ ≡ n)
+    × (take q ws ≡ map single (from 0 q))
+    × (take q fs ≡ replicate q false)
 
 abbrev μ-loop : tie.MeasureT-loop
-μ-loop n wires₀ q₀ wires q = n - q
+μ-loop ws₀ fs₀ n q₀ ws fs q = n - q
 
 loop-holds : tie.Need-loop-holds Inv-loop μ-loop
 unfolding from
-loop-holds c = (omega arith, refl, refl, refl)
+loop-holds c = (omega arith, refl, c .before .before .pre .0, refl, c .before .before .pre .1, c .before .before .pre .1, refl, refl)
 
 cast-single : tie.Need-cast-single Inv-loop μ-loop
 cast-single c = omega arith
@@ -35,11 +39,14 @@ cast-single c = omega arith
 single-requires : tie.Need-single-requires Inv-loop μ-loop
 single-requires c κs = omega arith
 
-mul-wires : tie.Need-mul-wires Inv-loop μ-loop
-mul-wires c = omega arith
+mul-ws : tie.Need-mul-ws Inv-loop μ-loop
+mul-ws c = omega arith
 
-element-write-wires : tie.Need-element-write-wires Inv-loop μ-loop
-element-write-wires c = omega arith
+slice-write-ws : tie.Need-slice-write-ws Inv-loop μ-loop
+slice-write-ws c = omega arith
+
+slice-write-fs : tie.Need-slice-write-fs Inv-loop μ-loop
+slice-write-fs c = omega arith
 
 add-q : tie.Need-add-q Inv-loop μ-loop
 add-q c = omega arith
@@ -52,25 +59,35 @@ loop-again c =
     let loop = c .before .before .loop in
     let inv = loop .inv in (
       omega arith,
-      rw (c .single .ensures) (inputs-more (loop .q) (loop .wires .sets) (omega arith) (inv .1)),
-      length-set (loop .wires .sets) (loop .q) (c .single .result) ∙ inv .2,
-      inv .3,
+      inv .1,
+      inv .2,
+      length-set (loop .ws) (loop .q) (c .single .result) ∙ inv .3,
+      length-set (loop .fs) (loop .q) false ∙ inv .4,
+      inv .5,
+      rw (c .single .ensures) (inputs-more (loop .q) (loop .ws) (omega arith) (inv .6)),
+      flips-more (loop .q) (loop .fs) (omega arith) (inv .7),
     )
 
-cast-t12 : tie.Need-cast-t12 Inv-loop μ-loop
-cast-t12 c = omega arith
+cast-t11 : tie.Need-cast-t11 Inv-loop μ-loop
+cast-t11 c = omega arith
+
+same-length : tie.Need-same-length Inv-loop μ-loop
+same-length c = c .before .loop .inv .3 ∙ c .before .loop .inv .1
+
+same-length-2 : tie.Need-same-length-2 Inv-loop μ-loop
+same-length-2 c = omega (arith, c .before .loop .inv .4, c .before .loop .inv .5)
 
 returns : tie.Need-returns Inv-loop μ-loop
 unfolding initial zipTerms
 returns c ss cs =
-    let a = c .before .before in
     let loop = c .before .loop in
-    let all : loop .q ≡ a .args .n = omega arith in
+    let inv = loop .inv in
+    let all : loop .q ≡ length (now (c .before .before .before .before .args .ws)) = omega (arith, inv .1, inv .0) in
     record {
-      qubits = refl;
-      next = omega arith;
+      next = omega (arith, inv .1);
       constant = refl;
-      wires = inputs-all (a .args .n) (loop .wires) (a .pre) (rw all at (loop .inv .1)) (loop .inv .3);
+      wires =
+          inputs-all _ (loop .ws) (loop .fs) (inv .3 ∙ inv .1) (inv .4 ∙ inv .1) (rw all at (inv .6)) (rw all at (inv .7));
       terms = stored-same 0 ss cs zero-le zero-le;
     }
 
@@ -83,10 +100,13 @@ start-spec =
     loop-holds
     cast-single
     single-requires
-    mul-wires
-    element-write-wires
+    mul-ws
+    slice-write-ws
+    slice-write-fs
     add-q
     loop-less
     loop-again
-    cast-t12
+    cast-t11
+    same-length
+    same-length-2
     returns)

@@ -1,22 +1,31 @@
--- `phase_sum::building::controlled_z` meets its contract. The wires' parities and the terms are what its calls ensure.
+-- `phase_sum_gates::controlled_z` meets its contract.
 -- Assumes nothing.
-use borrow.Author.Needs.{needs}
 use native.Mathlib.Omega.{arith}
 use denote.Ref.{now}
+use mathlib.Core.Path.{refl, sym, ap, _∙_}
+use Rattle.phase_sum_terms.proofs.Running.{controlled-z-leaves}
+use Rattle.phase_sum_terms.specs.Workspace.{lent}
 use Rattle.amplitude.specs.Circuit.{tally}
 use Rattle.phase_sum_meaning.specs.Room.{roomFor}
-use Rattle.phase_sum_terms.proofs.Running.{controlled-z-shows}
+use Rattle.record_format.specs.Gate.{oneQubitKind}
+use borrow.Author.Needs.{needs}
 use Rattle.phase_sum_gates.proofs.controlled_z.Statement.{statement}
 use Rattle.phase_sum_gates.proofs.controlled_z.Tie as tie
 
-wire-requires : tie.Need-wire-requires
-wire-requires c κs = search needs
+wire-at-requires : tie.Need-wire-at-requires
+wire-at-requires c κs =
+    let pre = c .before .before .before .before .before .pre in
+    (pre .within .0 .0, omega (arith, pre .within .0 .0, pre .flips))
 
-wire-requires-2 : tie.Need-wire-requires-2
-wire-requires-2 c κs = search needs
+wire-at-requires-2 : tie.Need-wire-at-requires-2
+wire-at-requires-2 c κs =
+    let pre = c .before .before .before .before .before .before .pre in
+    (pre .within .0 .1, omega (arith, pre .within .0 .1, pre .flips))
 
 put-product-requires : tie.Need-put-product-requires
-put-product-requires c κs = unfold tally roomFor in omega arith
+put-product-requires c κs =
+    let pre = c .before .before .before .before .before .before .before .before .before .pre in
+    unfold tally roomFor in (omega (arith, pre .sets), omega (arith, pre .coeffs))
 
 same-length : tie.Need-same-length
 same-length c = search needs
@@ -27,21 +36,26 @@ same-length-2 c = search needs
 returns : tie.Need-returns
 returns c =
     let at-phase = c .before .before .before .before in
-    let at-second = at-phase .before .before .before in
-    let at-first = at-second .before in
-    let at-start = at-first .before .before .before .before .before in
+    let at-wire = c .before .before .before .before .before .before .before .before in
+    let at-start = c .before .before .before .before .before .before .before .before .before .before .before .before .before .before in
     let a = at-start .args in
     let pre = at-start .pre in
     let phase = at-phase .put-product in
-    controlled-z-shows (a .sum) (a .a) (a .b) (at-first .wire .result) (at-second .wire2 .result) (phase .result) (now (a .sets))
-    (now (a .coeffs))
+    controlled-z-leaves (a .run) (a .a) (a .b) (lent (a .ws) (a .fs) (a .sets) (a .coeffs)) (at-wire .wire-at .result)
+    (c .before .before .before .before .before .before .before .wire-at2 .result) (phase .result)
     (pre .started)
-    (at-first .wire .ensures (a .sum .n) (pre .few) (pre .within .0 .0))
-    (at-second .wire2 .ensures (a .sum .n) (pre .few) (pre .within .0 .1))
+    (at-wire .wire-at .ensures)
+    (c .before .before .before .before .before .before .before .wire-at2 .ensures)
     (phase .ensures .0)
     (phase .ensures .1)
 
 pub controlled-z-spec : {M : Type 1} → statement M
 controlled-z-spec =
     tie.close
-    (tie.spec wire-requires wire-requires-2 put-product-requires same-length same-length-2 returns)
+    (tie.spec
+    wire-at-requires
+    wire-at-requires-2
+    put-product-requires
+    same-length
+    same-length-2
+    returns)

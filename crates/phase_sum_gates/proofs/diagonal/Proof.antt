@@ -1,17 +1,22 @@
--- `phase_sum::building::diagonal` meets its contract. The wire's parity and the term behind the others are what its two calls
--- ensure.
+-- `phase_sum_gates::diagonal` meets its contract.
 -- Assumes nothing.
-use borrow.Author.Needs.{needs}
+use native.Mathlib.Omega.{arith}
 use denote.Ref.{now}
-use Rattle.phase_sum_terms.proofs.Running.{diagonal-shows}
+use mathlib.Core.Path.{refl, sym, ap, _∙_}
+use Rattle.phase_sum_terms.proofs.Running.{diagonal-leaves}
+use Rattle.phase_sum_terms.specs.Workspace.{lent}
+use borrow.Author.Needs.{needs}
 use Rattle.phase_sum_gates.proofs.diagonal.Statement.{statement}
 use Rattle.phase_sum_gates.proofs.diagonal.Tie as tie
 
-wire-requires : tie.Need-wire-requires
-wire-requires c κs = search needs
+wire-at-requires : tie.Need-wire-at-requires
+wire-at-requires c κs =
+    let pre = c .before .before .before .before .before .pre in
+    (pre .0, omega (arith, pre .0, pre .1))
 
 put-phase-requires : tie.Need-put-phase-requires
-put-phase-requires c κs = search needs
+put-phase-requires c κs =
+    search needs
 
 same-length : tie.Need-same-length
 same-length c = search needs
@@ -23,15 +28,13 @@ returns : tie.Need-returns
 returns c =
     let at-phase = c .before .before .before .before in
     let at-wire = at-phase .before .before .before in
-    let at-start = at-wire .before .before .before .before .before in
+    let at-start = at-wire .before .before .before .before .before .before in
     let a = at-start .args in
     let pre = at-start .pre in
-    diagonal-shows (a .sum) (a .c) (a .q) (at-wire .wire .result) (at-phase .put-phase .result) (now (a .sets)) (now (a .coeffs))
-    (pre .2)
-    (at-wire .wire .ensures (a .sum .n) (pre .1) (pre .0))
-    (at-phase .put-phase .ensures .0)
+    diagonal-leaves (a .run) (a .c) (a .q) (lent (a .ws) (a .fs) (a .sets) (a .coeffs)) (at-wire .wire-at .result)
+    (at-phase .put-phase .result) (pre .2) (at-wire .wire-at .ensures) (at-phase .put-phase .ensures .0)
     (at-phase .put-phase .ensures .1)
 
 pub diagonal-spec : {M : Type 1} → statement M
 diagonal-spec =
-    tie.close (tie.spec wire-requires put-phase-requires same-length same-length-2 returns)
+    tie.close (tie.spec wire-at-requires put-phase-requires same-length same-length-2 returns)

@@ -1,23 +1,28 @@
--- `phase_sum::building::flip_wire` meets its contract.
+-- `phase_sum_gates::flip_wire` meets its contract.
 -- Assumes nothing.
-use mathlib.Core.Path.{_∙_}
+use denote.Ref.{now}
+use Rattle.phase_sum_terms.proofs.WireLaws.{zip-flip}
+use Rattle.phase_sum_terms.proofs.Running.{x-moves}
+use Rattle.phase_sum_terms.specs.Workspace.{zipWires}
 use borrow.Author.Needs.{needs}
-use Rattle.amplitude.proofs.XorLaws.{xor-trueˡ}
-use Rattle.phase_sum_meaning.specs.Parity.{complement}
 use Rattle.phase_sum_gates.proofs.flip_wire.Statement.{statement}
 use Rattle.phase_sum_gates.proofs.flip_wire.Tie as tie
 
-wire-requires : tie.Need-wire-requires
-wire-requires c κs = search needs
+slice-read-fs : tie.Need-slice-read-fs
+slice-read-fs c = search needs
 
-with-wire-requires : tie.Need-with-wire-requires
-with-wire-requires c κs = search needs
+slice-write-fs : tie.Need-slice-write-fs
+slice-write-fs c = search needs
+
+same-length : tie.Need-same-length
+same-length c = search needs
 
 returns : tie.Need-returns
-unfolding complement
-returns c n few l =
-    let w = c .before .before .wire in
-    c .with-wire .ensures n ∙ rw (← w .ensures n few l, complement, xor-trueˡ (w .result .flipped))
+returns c =
+    let at-start = c .before in
+    let a = at-start .args in
+    rw (zip-flip (now (a .ws)) (now (a .fs)) (a .q) (at-start .pre .0) (at-start .pre .1))
+    (x-moves (a .q) (zipWires (now (a .ws)) (now (a .fs))))
 
 pub flip-wire-spec : {M : Type 1} → statement M
-flip-wire-spec = tie.close (tie.spec wire-requires with-wire-requires returns)
+flip-wire-spec = tie.close (tie.spec slice-read-fs slice-write-fs same-length returns)

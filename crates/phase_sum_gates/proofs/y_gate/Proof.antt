@@ -1,22 +1,31 @@
--- `phase_sum::building::y_gate` meets its contract. The term, the wire's complement and the factor are what its calls ensure.
+-- `phase_sum_gates::y_gate` meets its contract.
 -- Assumes nothing.
-use borrow.Author.Needs.{needs}
 use native.Mathlib.Omega.{arith}
 use denote.Ref.{now}
+use mathlib.Core.Path.{refl, sym, ap, _∙_}
+use Rattle.phase_sum_terms.proofs.Running.{x-moved, y-leaves}
+use Rattle.phase_sum_terms.specs.Workspace.{lent}
 use Rattle.amplitude.specs.Circuit.{tally}
 use Rattle.phase_sum_meaning.specs.Room.{roomFor}
-use Rattle.phase_sum_terms.proofs.Running.{y-shows}
+use Rattle.record_format.specs.Gate.{oneQubitKind}
+use borrow.Author.Needs.{needs}
 use Rattle.phase_sum_gates.proofs.y_gate.Statement.{statement}
 use Rattle.phase_sum_gates.proofs.y_gate.Tie as tie
 
-wire-requires : tie.Need-wire-requires
-wire-requires c κs = search needs
+wire-at-requires : tie.Need-wire-at-requires
+wire-at-requires c κs =
+    let pre = c .before .before .before .before .before .before .pre in
+    (pre .within .0, omega (arith, pre .within .0, pre .flips))
 
 put-phase-requires : tie.Need-put-phase-requires
-put-phase-requires c κs = unfold tally roomFor in omega arith
+put-phase-requires c κs =
+    let pre = c .before .before .before .before .before .before .before .before .before .pre in
+    unfold tally roomFor in (omega (arith, pre .sets), omega (arith, pre .coeffs))
 
 flip-wire-requires : tie.Need-flip-wire-requires
-flip-wire-requires c κs = search needs
+flip-wire-requires c κs =
+    let pre = c .before .before .before .before .before .before .before .before .before .before .before .before .before .before .before .pre in
+    (pre .within .0, omega (arith, pre .within .0, pre .flips))
 
 add-requires : tie.Need-add-requires
 add-requires c κs = search needs
@@ -27,32 +36,36 @@ same-length c = search needs
 same-length-2 : tie.Need-same-length-2
 same-length-2 c = search needs
 
+same-length-3 : tie.Need-same-length-3
+same-length-3 c = search needs
+
 returns : tie.Need-returns
 returns c =
-    let at-phase = c .before .before .before .before .before .before in
-    let at-wire = at-phase .before .before .before in
-    let at-start = at-wire .before .before .before .before .before in
+    let at-flip = c .before .before .before in
+    let at-phase = c .before .before .before .before .before .before .before .before .before in
+    let at-wire = c .before .before .before .before .before .before .before .before .before .before .before .before in
+    let at-start = c .before .before .before .before .before .before .before .before .before .before .before .before .before .before .before .before .before .before .before in
     let a = at-start .args in
     let pre = at-start .pre in
-    let flipped = c .before .flip-wire in
     let phase = at-phase .put-phase in
-    y-shows (a .sum) (a .q) (at-wire .wire .result) (flipped .result) (phase .result) (c .add .result) (now (a .sets))
-    (now (a .coeffs))
+    y-leaves (a .run) (a .q) (lent (a .ws) (a .fs) (a .sets) (a .coeffs)) _ (at-wire .wire-at .result) (phase .result)
+    (c .add .result)
     (pre .started)
-    (at-wire .wire .ensures (a .sum .n) (pre .few) (pre .within .0))
+    (at-wire .wire-at .ensures)
     (phase .ensures .0)
     (phase .ensures .1)
-    (flipped .ensures (a .sum .n) (pre .few) (pre .within .0))
+    (x-moved (a .q) _ _ (at-flip .flip-wire .ensures))
     (c .add .ensures)
 
 pub y-gate-spec : {M : Type 1} → statement M
 y-gate-spec =
     tie.close
     (tie.spec
-    wire-requires
+    wire-at-requires
     put-phase-requires
     flip-wire-requires
     add-requires
     same-length
     same-length-2
+    same-length-3
     returns)

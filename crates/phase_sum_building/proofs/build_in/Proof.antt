@@ -1,0 +1,108 @@
+-- `phase_sum_building::build_in` meets its contract.
+-- Assumes nothing.
+use mathlib.Core.Path.{_≡_, refl, sym, _∙_}
+use native.Mathlib.Omega.{arith}
+use denote.Ref.{now}
+use Rattle.record_format.specs.Gate.{inverseList}
+use Rattle.phase_sum_terms.specs.Unmerged.{gatesIn, joinedIn}
+use Rattle.phase_sum_terms.proofs.Running.{start-fits, half-run, last-run, built-leaves}
+use borrow.Author.Needs.{needs}
+use Rattle.phase_sum_building.proofs.build_in.Statement.{statement}
+use Rattle.phase_sum_building.proofs.build_in.Tie as tie
+
+start-requires : tie.Need-start-requires
+start-requires c κs = search needs
+
+forwards-requires : tie.Need-forwards-requires
+forwards-requires c κs =
+    let a = c .before .before .before .before .before .before .before .before .before .before .before .before .before .before .before .before .before .args in
+    let pre = c .before .before .before .before .before .before .before .before .before .before .before .before .before .before .before .before .before .pre in
+    let b = c .before .before .before .before .before .before .before .before .start in
+    let starts = b .ensures (now (a .sets)) (now (a .coeffs)) in (
+      pre .1 .threes,
+      start-fits (now (a .first)) (now (a .second)) (pre .1) (b .result) starts
+          (record { wires = b .kept .0; flips = b .kept .1 .0; sets = refl; coeffs = refl }) (pre .0),
+    )
+
+backwards-requires : tie.Need-backwards-requires
+backwards-requires c κs =
+    let a = c .before .before .before .before .before .before .before .before .before .before .before .before .before .before .before .before .before .before .before .before .before .before .before .before .before .before .before .before .before .before .args in
+    let pre = c .before .before .before .before .before .before .before .before .before .before .before .before .before .before .before .before .before .before .before .before .before .before .before .before .before .before .before .before .before .before .pre in
+    let b = c .before .before .before .before .before .before .before .before .before .before .before .before .before .before .before .before .before .before .before .before .before .start in
+    let starts = b .ensures (now (a .sets)) (now (a .coeffs)) in
+    let f = c .before .before .before .before .before .before .before .before .before .before .before .before .forwards in
+    let kept = f .kept .1 .1 in
+    let half =
+    half-run (now (a .first)) (now (a .second)) (pre .1) (b .result) starts
+    (record { wires = b .kept .0; flips = b .kept .1 .0; sets = refl; coeffs = refl }) (pre .0) (f .ensures)
+    (record { wires = kept .0; flips = kept .1 .0; sets = kept .1 .1 .0; coeffs = kept .1 .1 .1 .0 })
+    in
+    (pre .1 .threes′, half .fits)
+
+canonical-requires : tie.Need-canonical-requires
+canonical-requires c κs =
+    let a = c .before .before .before .before .before .before .before .before .before .before .before .before .before .before .before .before .before .before .before .before .before .before .before .before .before .before .before .before .before .before .before .before .before .before .before .before .before .before .before .before .before .before .args in
+    let pre = c .before .before .before .before .before .before .before .before .before .before .before .before .before .before .before .before .before .before .before .before .before .before .before .before .before .before .before .before .before .before .before .before .before .before .before .before .before .before .before .before .before .before .pre in
+    let b = c .before .before .before .before .before .before .before .before .before .before .before .before .before .before .before .before .before .before .before .before .before .before .before .before .before .before .before .before .before .before .before .before .before .start in
+    let starts = b .ensures (now (a .sets)) (now (a .coeffs)) in
+    let f = c .before .before .before .before .before .before .before .before .before .before .before .before .before .before .before .before .before .before .before .before .before .before .before .before .forwards in
+    let kept = f .kept .1 .1 in
+    let half =
+    half-run (now (a .first)) (now (a .second)) (pre .1) (b .result) starts
+    (record { wires = b .kept .0; flips = b .kept .1 .0; sets = refl; coeffs = refl }) (pre .0) (f .ensures)
+    (record { wires = kept .0; flips = kept .1 .0; sets = kept .1 .1 .0; coeffs = kept .1 .1 .1 .0 })
+    in
+    let w = c .before .before .before .before .before .before .before .before .before .before .before .backwards in
+    let kept₁ = w .kept .1 .1 in
+    let whole =
+    last-run (inverseList (gatesIn (now (a .second)))) (f .result) half (w .ensures)
+    (record { wires = kept₁ .0; flips = kept₁ .1 .0; sets = kept₁ .1 .1 .0; coeffs = kept₁ .1 .1 .1 .0 })
+    in
+    (omega (arith, whole .fits .sets), omega (arith, whole .fits .coeffs))
+
+same-length : tie.Need-same-length
+same-length c = c .before .before .before .before .before .before .before .before .before .before .before .before .before .before .before .before .backwards .kept .1 .1 .0 ∙ c .before .before .before .before .before .before .before .before .before .before .before .before .before .before .before .before .before .before .before .before .before .before .before .before .before .before .before .before .before .forwards .kept .1 .1 .0 ∙ c .before .before .before .before .before .before .before .before .before .before .before .before .before .before .before .before .before .before .before .before .before .before .before .before .before .before .before .before .before .before .before .before .before .before .before .before .before .before .start .kept .0
+
+same-length-2 : tie.Need-same-length-2
+same-length-2 c = c .before .before .before .before .before .before .before .before .before .before .before .before .before .before .before .before .backwards .kept .1 .1 .1 .0 ∙ c .before .before .before .before .before .before .before .before .before .before .before .before .before .before .before .before .before .before .before .before .before .before .before .before .before .before .before .before .before .forwards .kept .1 .1 .1 .0 ∙ c .before .before .before .before .before .before .before .before .before .before .before .before .before .before .before .before .before .before .before .before .before .before .before .before .before .before .before .before .before .before .before .before .before .before .before .before .before .before .start .kept .1 .0
+
+same-length-3 : tie.Need-same-length-3
+same-length-3 c = search needs
+
+same-length-4 : tie.Need-same-length-4
+same-length-4 c = search needs
+
+returns : tie.Need-returns
+returns c =
+    let a = c .before .before .before .before .before .before .before .before .before .before .before .before .before .before .before .before .before .before .before .before .before .before .before .before .before .before .before .before .before .before .before .before .before .before .before .before .before .before .before .before .before .before .before .before .before .before .before .args in
+    let pre = c .before .before .before .before .before .before .before .before .before .before .before .before .before .before .before .before .before .before .before .before .before .before .before .before .before .before .before .before .before .before .before .before .before .before .before .before .before .before .before .before .before .before .before .before .before .before .before .pre in
+    let b = c .before .before .before .before .before .before .before .before .before .before .before .before .before .before .before .before .before .before .before .before .before .before .before .before .before .before .before .before .before .before .before .before .before .before .before .before .before .before .start in
+    let starts = b .ensures (now (a .sets)) (now (a .coeffs)) in
+    let f = c .before .before .before .before .before .before .before .before .before .before .before .before .before .before .before .before .before .before .before .before .before .before .before .before .before .before .before .before .before .forwards in
+    let kept = f .kept .1 .1 in
+    let half =
+    half-run (now (a .first)) (now (a .second)) (pre .1) (b .result) starts
+    (record { wires = b .kept .0; flips = b .kept .1 .0; sets = refl; coeffs = refl }) (pre .0) (f .ensures)
+    (record { wires = kept .0; flips = kept .1 .0; sets = kept .1 .1 .0; coeffs = kept .1 .1 .1 .0 })
+    in
+    let w = c .before .before .before .before .before .before .before .before .before .before .before .before .before .before .before .before .backwards in
+    let kept₁ = w .kept .1 .1 in
+    let whole =
+    last-run (inverseList (gatesIn (now (a .second)))) (f .result) half (w .ensures)
+    (record { wires = kept₁ .0; flips = kept₁ .1 .0; sets = kept₁ .1 .1 .0; coeffs = kept₁ .1 .1 .1 .0 })
+    in
+    built-leaves (joinedIn (now (a .first)) (now (a .second))) whole (c .before .before .before .before .canonical .ensures)
+
+pub build-in-spec : {M : Type 1} → statement M
+build-in-spec =
+    tie.close
+    (tie.spec
+    start-requires
+    forwards-requires
+    backwards-requires
+    canonical-requires
+    same-length
+    same-length-2
+    same-length-3
+    same-length-4
+    returns)
