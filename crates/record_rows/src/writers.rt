@@ -17,7 +17,7 @@ fn pair_at(numbers: &[u8], k: usize) -> u16 {
 }
 
 // The report of the eight numbers behind the first.
-fn report_of(numbers: &[u8]) -> Report {
+fn report_from(numbers: &[u8]) -> Report {
     Report {
         verdict: byte_at(numbers, 1),
         first: pair_at(numbers, 2),
@@ -74,7 +74,7 @@ fn answer(call: u8, numbers: &[u8], record: &[u8], buffer: &mut [u8]) -> Written
         names::START => builder::start(buffer, number(numbers, 1)),
         names::ADD => add(numbers, buffer),
         names::INVERSE => inverter::inverse(record, buffer),
-        _ => reporter::write_report(buffer, report_of(numbers)),
+        _ => reporter::write_report(buffer, report_from(numbers)),
     }
 }
 
