@@ -2,8 +2,8 @@
 // tests/README.md describes rows and lines; tests/make_rows.py writes the rows of the gate and what must be printed for them.
 //
 // A row: NAME;CALL;NUMBERS;FIRST;SECOND, all five of them. NUMBERS are decimal, one space between two. FIRST and SECOND are bytes in
-// hexadecimal, or a list of gates on n qubits, as `2:h0 t1 c01` (record_rows). What is printed: the name, what the call answered, and what the
-// lent buffer or workspaces hold afterwards. A row that cannot be read prints `bad row`.
+// hexadecimal, or a list of gates on n qubits, as `2:h0 t1 c01` (record_rows). What is printed: the name, what the call answered, and what
+// the lent buffer or workspaces hold afterwards. A row that cannot be read prints `bad row`.
 mod lines;
 mod pairs;
 mod rows;

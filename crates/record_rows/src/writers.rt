@@ -14,7 +14,7 @@ fn pair_at(numbers: &[u8], k: usize) -> u16 {
 }
 
 // The report of the eight numbers behind the first.
-fn report_of(numbers: &[u8]) -> Report {
+fn report_from(numbers: &[u8]) -> Report {
     Report {
         verdict: byte_at(numbers, 1),
         first: pair_at(numbers, 2),
@@ -71,7 +71,7 @@ fn answer(call: u8, numbers: &[u8], record: &[u8], buffer: &mut [u8]) -> Written
         names::START => records::start(buffer, number(numbers, 1)),
         names::ADD => add(numbers, buffer),
         names::INVERSE => records::inverse(record, buffer),
-        _ => records::write_report(buffer, report_of(numbers)),
+        _ => records::write_report(buffer, report_from(numbers)),
     }
 }
 
