@@ -25,7 +25,7 @@ const FILE_SIZE: usize = 1542;
 // Two records take 3,082 bytes at the most; one byte more tells whether others follow.
 const STREAM_SIZE: usize = 3083;
 
-// The number of bytes that follow the second record, or a file's record.
+// The refusal's number where bytes follow the second record, or the record of a file.
 const BYTES_FOLLOW: u8 = 12;
 
 // The bytes of a record of g gates; 0 for more gates than a record has.

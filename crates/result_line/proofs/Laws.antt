@@ -5,7 +5,7 @@ use Prim.Native.Nat.{ℕ, zero, suc, _+_, _*_, _-_, _/_, _%_, _^_, _≤_, _<_}
 use native.Mathlib.Nat.{add-assoc, add-zero, zero-add, pow-suc}
 use native.Mathlib.Numerals.{add-one}
 use native.Mathlib.Omega.{arith}
-use mathlib.Core.Bool.{Bool, true, false, cond}
+use mathlib.Core.Bool.{Bool, true, false}
 use mathlib.Core.List.{List, [], _∷_, _++_, append-assoc, append-nil}
 use lib.Dec.{ltb}
 use lib.ListN.{length, take, drop, set, getD, length-append, length-take, length-drop, take-append-drop}
@@ -122,7 +122,7 @@ read-digits (suc k) n small = go (read-digits k (n / 10)) (one-or-more n)
     go h (inl l) = read-one (suc k) n l
     go h (inr l) = rw (digits-more (suc k) n l, read-last 0 (digits (suc k) (n / 10)) (digit (n % 10)), h (omega (arith, pow-suc 10 (suc k)))) (omega arith)
 
--- a line's number is read back from its digits
+-- a line's number is read back from its digits: two numbers never have the same text
 pub decimal-reads-back : (n : ℕ) → n < 100000 → readOn 0 (decimal n) ≡ n
 decimal-reads-back n small = read-digits 4 n small
 
@@ -171,11 +171,6 @@ wrote-both {at} {a} {b} {old} {e} {r} {mid} {new} fits f s =
       end = s .end ∙ rw (f .end, length-append, ← add-assoc) refl;
       leaves = s .leaves ∙ rw (f .end, f .leaves) (written-twice at a b old fits);
     }
-
--- a buffer keeps its length
-pub wrote-length :
-    {at : ℕ} {a old : List ℕ} {r : ℕ} {new : List ℕ} → at + length a ≤ length old → Wrote at a old r new → length new ≡ length old
-wrote-length {at} {a} {old} {r} {new} fits w = ap length (w .leaves) ∙ length-written at a old fits
 
 -- a text written at the front
 pub wrote-front : {a old : List ℕ} {r : ℕ} {new : List ℕ} → Wrote 0 a old r new → AtFront a old r new

@@ -22,7 +22,7 @@ digits (suc k) n = cond (ltb n 10) (digit n ∷ []) (digits k (n / 10) ++ (digit
 abbrev pub decimal : ℕ → List ℕ
 decimal n = digits 5 n
 
--- the number that decimal digits stand for, read behind a number that was read before them
+-- the number that decimal digits stand for, read behind a number that was read before them (`decimal-reads-back` in proofs/Laws.antt)
 unfoldable pub readOn : ℕ → List ℕ → ℕ
 readOn m [] = m
 readOn m (d ∷ ds) = readOn (m * 10 + (d - digit 0)) ds

@@ -1,16 +1,12 @@
 -- `result_line::put_number` meets its contract: the digits of the tenth, then the last digit. The measure is the number.
 -- Assumes nothing.
-use mathlib.Core.Path.{_≡_, refl, sym, ap, _∙_}
-use Prim.Native.Nat.{ℕ, _+_, _/_, _%_, _<_, _≤_}
+use mathlib.Core.Path.{ap}
+use Prim.Native.Nat.{ℕ, _<_, _≤_}
 use native.Mathlib.Omega.{arith}
-use mathlib.Core.List.{List, [], _∷_, _++_}
-use lib.ListN.{length, length-append}
-use denote.Ref.{now}
+use lib.ListN.{length}
 use borrow.Author.Needs.{needs}
 use borrow.Fn.Kinds.{In}
 use borrow.Fn.PlainCycle.{Measures, is, falls, and}
-use Rattle.result_line.specs.Line.{digit, decimal}
-use Rattle.result_line.specs.Inner.{written}
 use Rattle.result_line.proofs.Laws.{one-digit, decimal-longer, wrote-one, wrote-more}
 use Rattle.result_line.proofs.put_number.Reads as put-number
 use Rattle.result_line.proofs.put_number.Kinds as put-number-kinds

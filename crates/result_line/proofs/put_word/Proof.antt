@@ -1,11 +1,11 @@
 -- `result_line::put_word` meets its contract. The invariant: the word's first i bytes stand at the front, and all other bytes are as they
 -- were.
 -- Assumes nothing.
-use mathlib.Core.Path.{_≡_, refl, sym, ap, _∙_}
-use Prim.Native.Nat.{ℕ, _+_, _-_, _≤_}
+use mathlib.Core.Path.{_≡_, refl, _∙_}
+use Prim.Native.Nat.{_-_, _≤_}
 use native.Mathlib.Nat.{zero-add}
 use native.Mathlib.Omega.{arith}
-use lib.ListN.{length, take, length-set}
+use lib.ListN.{length, take}
 use lib.Seq.{take-length}
 use denote.Ref.{now}
 use borrow.Author.Needs.{needs}
