@@ -39,7 +39,7 @@ fn take_byte(byte: u8, line: &mut [u8], lines: Lines) -> Lines {
             ended: false,
         };
     }
-    row_text::put(line, size, byte);
+    calls_text::put(line, size, byte);
     Lines {
         size: wrapping_add_usize(size, 1),
         rows,

@@ -2,7 +2,7 @@
 // tests/README.md describes rows and lines; tests/make_rows.py writes the rows of the gate and what must be printed for them.
 //
 // A row: NAME;CALL;NUMBERS;FIRST;SECOND, all five of them. NUMBERS are decimal, one space between two. FIRST and SECOND are bytes in
-// hexadecimal, or a list of gates on n qubits, as `2:h0 t1 c01` (record_rows). What is printed: the name, what the call answered, and what
+// hexadecimal, or a list of gates on n qubits, as `2:h0 t1 c01` (calls_records). What is printed: the name, what the call answered, and what
 // the lent buffer or workspaces hold afterwards. A row that cannot be read prints `bad row`.
 mod lines;
 mod pairs;
@@ -10,8 +10,8 @@ mod rows;
 
 use crate::lines::Lines;
 use libc::STDIN_FILENO;
-use row_text::plus;
-use row_text::print;
+use calls_text::plus;
+use calls_text::print;
 
 // More input, and the rows that end in it; or that the input has ended.
 fn read_some(line: &mut [u8], lines: Lines) -> Lines {

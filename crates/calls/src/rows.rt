@@ -1,17 +1,17 @@
 // One row: its parts, and the call that it names.
 use crate::pairs;
-use record_rows::MOST_BYTES;
-use record_rows::front;
-use row_text::Bytes;
-use row_text::part;
-use row_text::parts;
-use row_text::print;
+use calls_records::MOST_BYTES;
+use calls_records::front;
+use calls_text::Bytes;
+use calls_text::part;
+use calls_text::parts;
+use calls_text::print;
 
 // A call on a pair: two lists, or one slice given twice where the second is written `=`.
 fn pair(picks: bool, numbers: &[u8], first: &[u8], second: &[u8]) {
     let mut a = [0xa5u8; MOST_BYTES];
     let mut b = [0xa5u8; MOST_BYTES];
-    let Bytes::Count(size) = record_rows::bytes_of(first, &mut a) else {
+    let Bytes::Count(size) = calls_records::bytes_of(first, &mut a) else {
         print::bad();
         return;
     };
@@ -19,7 +19,7 @@ fn pair(picks: bool, numbers: &[u8], first: &[u8], second: &[u8]) {
         pairs::run(picks, numbers, front(&a, size), front(&a, size));
         return;
     }
-    let Bytes::Count(other) = record_rows::bytes_of(second, &mut b) else {
+    let Bytes::Count(other) = calls_records::bytes_of(second, &mut b) else {
         print::bad();
         return;
     };
@@ -36,7 +36,7 @@ fn run(name: &[u8], numbers: &[u8], first: &[u8], second: &[u8]) {
         pair(true, numbers, first, second);
         return;
     }
-    record_rows::run(name, numbers, first, second);
+    calls_records::run(name, numbers, first, second);
 }
 
 // A row's line, but for the name and the end.
