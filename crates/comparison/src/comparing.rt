@@ -1,16 +1,14 @@
 // The comparison: the checks on the pair, then building, pinning, reducing and the verdict.
 ghost use mathlib.Core.Path.{_≡_};
-ghost use Prim.Native.Nat.{ℕ, _-_, _≤_};
-ghost use mathlib.Core.List.{List};
+ghost use Prim.Native.Nat.{_≤_};
 ghost use lib.ListN.{length};
-ghost use Rattle.phase_sum_meaning.specs.Sets.{from};
 ghost use Rattle.phase_sum_meaning.specs.Room.{room, places};
+ghost use Rattle.phase_sum_terms.specs.Workspace.{lent, before, after, Sized};
 ghost use Rattle.phase_sum_terms.specs.Unmerged.{gatesIn, Buildable};
-ghost use Rattle.comparison_meaning.specs.Reduction.{reduceEnd};
 ghost use Rattle.comparison_meaning.specs.Verdict.{compare};
 ghost use Rattle.comparison_types.specs.Call.{resultOf, saidOf, comparison, leftBy};
 ghost use Rattle.comparison_types.specs.Clauses.{Sound, Stops, Inputs, Clifford, CountsUp};
-ghost use Rattle.comparison_types.specs.Inner.{members, sumBuilt, sumOf, endOf, Sized, Kept, Follows, FewSteps, answerOf, ComparedRead};
+ghost use Rattle.comparison_types.specs.Inner.{CountedTo, ReducesEnd, Kept, answerOf, ComparedRead};
 use comparison_checking::PLACES;
 use comparison_checking::check_call;
 use comparison_judging::judging::judge;
@@ -18,78 +16,67 @@ use comparison_reducing::pinning::pin;
 use comparison_reducing::reducing::reduce;
 use comparison_types::Answer;
 use comparison_types::Comparison;
-use comparison_types::Counts;
 use comparison_types::End;
 use comparison_types::Outcome;
 use comparison_types::PairCheck;
-use comparison_types::State;
 use phase_sum_building::build;
-use phase_sum_terms::Sum;
-use phase_sum_terms::sets::single;
-use phase_sum_terms::sets::union;
 use phase_sum_terms::terms::clear;
 use record_reading::gate_bytes;
 
-// The variables from n up to next, as a set.
-fn path_variables(n: u32, next: u32) -> u64
-    requires { ⌜ (n ≤ next) × (next ≤ 64) ⌝ }
-    ensures { λ r. ⌜ members r ≡ from n (next - n) ⌝ }
-{
-    let mut set = 0;
-    let mut v = n;
-    while v < next {
-        set = union(set, single(v));
-        v += 1;
-    }
-    set
-}
-
-// A built sum, ready to be pinned: every path variable is left, and no step is taken yet.
-fn begin(sum: Sum) -> State
-    requires { ⌜ (sum .n ≤ 16) × (sum .n ≤ sum .next) × (sum .next ≤ 64) ⌝ }
-    ensures sum { λ r. ⌜ ((ss cs : List ℕ) → sumOf r ss cs ≡ sumBuilt sum ss cs) ⌝ }
-    ensures counts { λ r. ⌜ r .counts ≡ record { pins = 0; sums = 0; turns = 0; joins = 0 } ⌝ }
-    ensures same { λ r. ⌜ (r .n ≡ sum .n) × (r .phase ≡ sum .phase) ⌝ }
-{
-    let wires = sum.wires;
-    let phase = sum.phase;
-    State {
-        n: sum.n,
-        live: path_variables(sum.n as u32, sum.next),
-        wires,
-        phase,
-        counts: Counts {
-            pins: 0,
-            sums: 0,
-            turns: 0,
-            joins: 0,
-        },
-    }
-}
-
 // Reducing what pinning left.
-fn reduce_end(pinned: End, sets: &mut [u64], coeffs: &mut [u8]) -> End
-    requires { ⌜ FewSteps 0 (pinned .state) × Sized (pinned .state) (now sets) (now coeffs) ⌝ }
-    ensures steps { λ r. ⌜ endOf r (now (sets .exit)) (now (coeffs .exit)) ≡ reduceEnd (endOf pinned (now (sets .entry)) (now (coeffs .entry))) ⌝ }
-    ensures follows { λ r. ⌜ Follows (pinned .state) (r .state) (now (sets .entry)) (now (coeffs .entry)) (now (sets .exit)) (now (coeffs .exit)) ⌝ }
+fn reduce_end(
+    pinned: End,
+    ws: &mut [u64],
+    fs: &mut [bool],
+    sets: &mut [u64],
+    coeffs: &mut [u8],
+) -> End
+    requires { ⌜ CountedTo 0 (pinned .counts) × Sized (pinned .sum) (lent ws fs sets coeffs) ⌝ }
+    ensures { λ r. ⌜ ReducesEnd pinned r (before ws fs sets coeffs) (after ws fs sets coeffs) ⌝ }
 {
     if pinned.blocked {
         return pinned;
     }
-    let state = pinned.state;
-    reduce(state, sets, coeffs)
+    let sum = pinned.sum;
+    let counts = pinned.counts;
+    reduce(sum, counts, ws, fs, sets, coeffs)
 }
 
-// The comparison of two lists of gates on n qubits, by their bytes. The workspaces keep what the reduction left in the first places.
+// The comparison of two lists of gates, by their bytes, on as many qubits as there are wires. The slices keep what the reduction left.
+fn decide_in(
+    first: &[u8],
+    second: &[u8],
+    ws: &mut [u64],
+    fs: &mut [bool],
+    sets: &mut [u64],
+    coeffs: &mut [u8],
+) -> Outcome
+    requires { ⌜ (length (now fs) ≡ length (now ws)) × Buildable (length (now ws)) (now first) (now second) (now sets) (now coeffs) ⌝ }
+    ensures { λ r. ⌜ resultOf r ≡ compare 0 (length (now (ws .entry))) (gatesIn (now (first .entry))) (gatesIn (now (second .entry))) ⌝ }
+{
+    let n = ws.len();
+    let sum = build(first, second, ws, fs, sets, coeffs);
+    let pinned = pin(sum, ws, fs, sets, coeffs);
+    let end = reduce_end(pinned, ws, fs, sets, coeffs);
+    judge(end, n, sets, coeffs)
+}
+
+// The comparison of two lists of gates on n qubits, by their bytes, in the first places of the workspaces alone.
 fn decide(n: usize, first: &[u8], second: &[u8], sets: &mut [u64], coeffs: &mut [u8]) -> Outcome
     requires { ⌜ Buildable n (now first) (now second) (now sets) (now coeffs) × (room (gatesIn (now first)) (gatesIn (now second)) ≤ places) × (places ≤ length (now sets)) × (places ≤ length (now coeffs)) ⌝ }
     ensures steps { λ r. ⌜ resultOf r ≡ compare 0 n (gatesIn (now (first .entry))) (gatesIn (now (second .entry))) ⌝ }
     ensures kept { λ _. ⌜ Kept (now (sets .entry)) (now (coeffs .entry)) (now (sets .exit)) (now (coeffs .exit)) ⌝ }
 {
-    let state = begin(build(n, first, second, sets, coeffs));
-    let pinned = pin(state, sets, coeffs);
-    let end = reduce_end(pinned, sets, coeffs);
-    judge(end, sets, coeffs)
+    let mut ws = [0u64; 16];
+    let mut fs = [false; 16];
+    decide_in(
+        first,
+        second,
+        &mut ws[..n],
+        &mut fs[..n],
+        &mut sets[..PLACES],
+        &mut coeffs[..PLACES],
+    )
 }
 
 // Two lists compared, each read once: the outcome with the gates of both lists, or why the pair is turned down.

@@ -1,20 +1,22 @@
 // The verdict on where the reduction ended, with its two inputs and the counts. Document 01, "Reducing it".
 ghost use mathlib.Core.Path.{_≡_};
 ghost use Prim.Native.Nat.{ℕ, _≤_};
-ghost use mathlib.Core.Bool.{false};
+ghost use mathlib.Core.Bool.{Bool};
 ghost use mathlib.Core.List.{List};
-ghost use Rattle.phase_sum_terms.specs.Workspace.{parityOf};
+ghost use lib.ListN.{length};
+ghost use Rattle.phase_sum_terms.specs.Workspace.{parityOf, Lent, slices};
 ghost use Rattle.comparison_meaning.specs.Verdict.{blockedInput, result, searched, judge};
 ghost use Rattle.comparison_types.specs.Call.{verdictOf, resultOf};
-ghost use Rattle.comparison_types.specs.Inner.{endOf, Sized};
+ghost use Rattle.comparison_types.specs.Inner.{endOf, unblocked};
 use crate::searching::search;
-use comparison_changing::lowest;
+use comparison_types::Counts;
 use comparison_types::End;
-use comparison_types::Found;
 use comparison_types::Outcome;
-use comparison_types::State;
 use comparison_types::Verdict;
+use phase_sum_terms::Found;
+use phase_sum_terms::Sum;
 use phase_sum_terms::Wire;
+use phase_sum_terms::sets::lowest;
 
 // An input that makes a blocked parity 1: 0 if its constant is 1, else the input that holds only its lowest qubit.
 fn blocked_input(by: Wire, n: usize) -> u16
@@ -32,11 +34,10 @@ fn blocked_input(by: Wire, n: usize) -> u16
     }
 }
 
-// The verdict and the inputs, with the counts of a state.
-fn outcome(state: State, verdict: Verdict, first: u16, second: u16) -> Outcome
-    ensures { λ r. ⌜ ((ss cs : List ℕ) (by : Wire) → resultOf r ≡ result (verdictOf verdict) first second (endOf (record { blocked = false; by = by; state = state }) ss cs)) ⌝ }
+// The verdict and the inputs, with the counts and the variables left.
+fn outcome(sum: Sum, counts: Counts, verdict: Verdict, first: u16, second: u16) -> Outcome
+    ensures { λ r. ⌜ ((l : Lent) (by : Wire) → resultOf r ≡ result (verdictOf verdict) first second (endOf (unblocked by sum counts) l)) ⌝ }
 {
-    let counts = state.counts;
     Outcome {
         verdict,
         first,
@@ -45,40 +46,40 @@ fn outcome(state: State, verdict: Verdict, first: u16, second: u16) -> Outcome
         sums: counts.sums,
         turns: counts.turns,
         joins: counts.joins,
-        left: u64::count_ones(state.live) as u8,
+        left: u64::count_ones(sum.live) as u8,
     }
 }
 
 // No path variable is left: different unless pins and sums agree, else the search decides.
-fn searched(state: State, sets: &[u64], coeffs: &[u8]) -> Outcome
-    requires { ⌜ Sized state (now sets) (now coeffs) ⌝ }
-    ensures { λ r. ⌜ ((by : Wire) → resultOf r ≡ searched 0 (state .n) (endOf (record { blocked = false; by = by; state = state }) (now (sets .entry)) (now (coeffs .entry)))) ⌝ }
+fn searched(sum: Sum, counts: Counts, n: usize, sets: &[u64], coeffs: &[u8]) -> Outcome
+    requires { ⌜ (n ≤ 16) × (sum .phase .count ≤ length (now sets)) × (sum .phase .count ≤ length (now coeffs)) ⌝ }
+    ensures { λ r. ⌜ ((ws : List ℕ) (fs : List Bool) (by : Wire) → resultOf r ≡ searched 0 n (endOf (unblocked by sum counts) (slices ws fs (now (sets .entry)) (now (coeffs .entry))))) ⌝ }
 {
-    let phase = state.phase;
-    let counts = state.counts;
+    let phase = sum.phase;
     if counts.pins != counts.sums {
-        return outcome(state, Verdict::Different, 0, 0);
+        return outcome(sum, counts, Verdict::Different, 0, 0);
     }
-    let found = search(sets, coeffs, phase, state.n as u32);
+    let found = search(sets, coeffs, phase, n as u32);
     if found != 0 {
-        return outcome(state, Verdict::Different, 0, found as u16);
+        return outcome(sum, counts, Verdict::Different, 0, found as u16);
     }
-    outcome(state, Verdict::Equal, 0, 0)
+    outcome(sum, counts, Verdict::Equal, 0, 0)
 }
 
-// The verdict.
-pub fn judge(end: End, sets: &[u64], coeffs: &[u8]) -> Outcome
-    requires { ⌜ Sized (end .state) (now sets) (now coeffs) ⌝ }
-    ensures { λ r. ⌜ resultOf r ≡ judge 0 (end .state .n) (endOf end (now (sets .entry)) (now (coeffs .entry))) ⌝ }
+// The verdict on n qubits.
+pub fn judge(end: End, n: usize, sets: &[u64], coeffs: &[u8]) -> Outcome
+    requires { ⌜ (n ≤ 16) × (end .sum .phase .count ≤ length (now sets)) × (end .sum .phase .count ≤ length (now coeffs)) ⌝ }
+    ensures { λ r. ⌜ ((ws : List ℕ) (fs : List Bool) → resultOf r ≡ judge 0 n (endOf end (slices ws fs (now (sets .entry)) (now (coeffs .entry))))) ⌝ }
 {
-    let state = end.state;
+    let sum = end.sum;
+    let counts = end.counts;
     let by = end.by;
     if end.blocked {
-        let input = blocked_input(by, state.n);
-        return outcome(state, Verdict::Different, input, input);
+        let input = blocked_input(by, n);
+        return outcome(sum, counts, Verdict::Different, input, input);
     }
-    if state.live != 0 {
-        return outcome(state, Verdict::Undecided, 0, 0);
+    if sum.live != 0 {
+        return outcome(sum, counts, Verdict::Undecided, 0, 0);
     }
-    searched(state, sets, coeffs)
+    searched(sum, counts, n, sets, coeffs)
 }

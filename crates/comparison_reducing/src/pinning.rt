@@ -1,32 +1,29 @@
 // Pinning: each output wire set equal to its input, qubit 0 upwards. Document 01, "Reducing it".
 ghost use mathlib.Core.Path.{_≡_};
-ghost use Prim.Native.Nat.{ℕ, suc, _+_, _<_, _≤_};
-ghost use mathlib.Core.Bool.{cond};
-ghost use lib.ListN.{getD};
+ghost use Prim.Native.Nat.{_+_, _<_, _≤_};
+ghost use lib.ListN.{length, getD};
 ghost use Rattle.phase_sum_meaning.specs.Parity.{of, _⊕_, rest};
 ghost use Rattle.phase_sum_meaning.specs.Building.{input};
-ghost use Rattle.phase_sum_terms.specs.Workspace.{wiresOf, parityOf};
-ghost use Rattle.comparison_meaning.specs.Reduction.{isZero, pinFrom, pinned};
-ghost use Rattle.comparison_types.specs.Inner.{sumOf, countsOf, endOf, Sized, Follows, FewSteps};
-use comparison_changing::lowest_in;
-use comparison_changing::replace;
-use comparison_changing::with_counts;
+ghost use Rattle.phase_sum_terms.specs.Workspace.{parityOf, zipWires, lent, before, after, Sized};
+ghost use Rattle.comparison_meaning.specs.Reduction.{isZero};
+ghost use Rattle.comparison_types.specs.Inner.{PinnedQubit, PinnedAll};
 use comparison_types::Counts;
 use comparison_types::End;
-use comparison_types::Found;
-use comparison_types::State;
-use phase_sum_gates::wire;
+use phase_sum_stepping::replace;
+use phase_sum_terms::Found;
+use phase_sum_terms::Sum;
 use phase_sum_terms::Wire;
-use phase_sum_terms::Wires;
 use phase_sum_terms::sets::exclusive_or;
+use phase_sum_terms::sets::lowest_in;
 use phase_sum_terms::sets::single;
+use phase_sum_terms::wires::wire;
 
 // The parity of output wire q and input q together.
-fn mismatch(wires: Wires, q: usize) -> Wire
-    requires { ⌜ q < 16 ⌝ }
-    ensures { λ r. ⌜ ((n : ℕ) → n ≤ 16 → q < n → parityOf r ≡ getD (wiresOf n wires) q (of 0) ⊕ input 0 q) ⌝ }
+fn mismatch(ws: &[u64], fs: &[bool], q: usize) -> Wire
+    requires { ⌜ (q < 64) × (q < length (now ws)) × (q < length (now fs)) ⌝ }
+    ensures { λ r. ⌜ parityOf r ≡ getD (zipWires (now (ws .entry)) (now (fs .entry))) q (of 0) ⊕ input 0 q ⌝ }
 {
-    let w = wire(wires, q);
+    let w = wire(ws, fs, q);
     Wire {
         set: exclusive_or(w.set, single(q as u32)),
         flipped: w.flipped,
@@ -54,62 +51,73 @@ fn is_zero(w: Wire) -> bool
     false
 }
 
-// Qubit q pinned, or blocked.
-fn pin_qubit(state: State, q: usize, sets: &mut [u64], coeffs: &mut [u8]) -> End
-    requires { ⌜ (q < state .n) × (state .counts .pins ≤ q) × Sized state (now sets) (now coeffs) ⌝ }
-    ensures steps { λ r. ⌜ ((m : ℕ) → pinFrom 0 (suc m) q (sumOf state (now (sets .entry)) (now (coeffs .entry))) (countsOf state) ≡ cond (r .blocked) (endOf r (now (sets .exit)) (now (coeffs .exit))) (pinFrom 0 m (suc q) (sumOf (r .state) (now (sets .exit)) (now (coeffs .exit))) (countsOf (r .state)))) ⌝ }
-    ensures follows { λ r. ⌜ Follows state (r .state) (now (sets .entry)) (now (coeffs .entry)) (now (sets .exit)) (now (coeffs .exit)) ⌝ }
-    ensures pins { λ r. ⌜ r .state .counts .pins ≤ q + 1 ⌝ }
-    ensures others { λ r. ⌜ (FewSteps 0 state → FewSteps 0 (r .state)) ⌝ }
+// One pin more.
+fn add_pin(counts: Counts) -> Counts
+    requires { ⌜ counts .pins < 255 ⌝ }
+    ensures { λ r. ⌜ r ≡ record { pins = counts .pins + 1; sums = counts .sums; turns = counts .turns; joins = counts .joins } ⌝ }
 {
-    let wires = state.wires;
-    let by = mismatch(wires, q);
-    match lowest_in(state.live, by.set) {
-        Found::Variable(z) => {
-            let next = replace(state, z, rest_of(by, z), sets, coeffs);
-            let counts = next.counts;
-            End {
-                blocked: false,
-                by,
-                state: with_counts(
-                    next,
-                    Counts {
-                        pins: counts.pins + 1,
-                        sums: counts.sums,
-                        turns: counts.turns,
-                        joins: counts.joins,
-                    },
-                ),
-            }
-        }
+    Counts {
+        pins: counts.pins + 1,
+        sums: counts.sums,
+        turns: counts.turns,
+        joins: counts.joins,
+    }
+}
+
+// Qubit q pinned, or blocked.
+fn pin_qubit(
+    sum: Sum,
+    counts: Counts,
+    q: usize,
+    ws: &mut [u64],
+    fs: &mut [bool],
+    sets: &mut [u64],
+    coeffs: &mut [u8],
+) -> End
+    requires { ⌜ (q < length (now ws)) × (counts .pins ≤ q) × Sized sum (lent ws fs sets coeffs) ⌝ }
+    ensures { λ r. ⌜ PinnedQubit q sum counts r (before ws fs sets coeffs) (after ws fs sets coeffs) ⌝ }
+{
+    let by = mismatch(ws, fs, q);
+    match lowest_in(sum.live, by.set) {
+        Found::Variable(z) => End {
+            blocked: false,
+            by,
+            sum: replace(sum, z, rest_of(by, z), ws, fs, sets, coeffs),
+            counts: add_pin(counts),
+        },
         Found::Nothing => End {
             blocked: !is_zero(by),
             by,
-            state,
+            sum,
+            counts,
         },
     }
 }
 
 // Every qubit pinned, up to the first that is blocked.
-pub fn pin(state: State, sets: &mut [u64], coeffs: &mut [u8]) -> End
-    requires { ⌜ (state .counts ≡ record { pins = 0; sums = 0; turns = 0; joins = 0 }) × Sized state (now sets) (now coeffs) ⌝ }
-    ensures steps { λ r. ⌜ endOf r (now (sets .exit)) (now (coeffs .exit)) ≡ pinned 0 (state .n) (sumOf state (now (sets .entry)) (now (coeffs .entry))) ⌝ }
-    ensures follows { λ r. ⌜ Follows state (r .state) (now (sets .entry)) (now (coeffs .entry)) (now (sets .exit)) (now (coeffs .exit)) ⌝ }
-    ensures counts { λ r. ⌜ FewSteps 0 (r .state) ⌝ }
+pub fn pin(sum: Sum, ws: &mut [u64], fs: &mut [bool], sets: &mut [u64], coeffs: &mut [u8]) -> End
+    requires { ⌜ Sized sum (lent ws fs sets coeffs) ⌝ }
+    ensures { λ r. ⌜ PinnedAll sum r (before ws fs sets coeffs) (after ws fs sets coeffs) ⌝ }
 {
-    let n = state.n;
     let mut end = End {
         blocked: false,
         by: Wire {
             set: 0,
             flipped: false,
         },
-        state,
+        sum,
+        counts: Counts {
+            pins: 0,
+            sums: 0,
+            turns: 0,
+            joins: 0,
+        },
     };
     let mut q = 0;
-    while q < n {
-        let now = end.state;
-        end = pin_qubit(now, q, sets, coeffs);
+    while q < ws.len() {
+        let now = end.sum;
+        let counts = end.counts;
+        end = pin_qubit(now, counts, q, ws, fs, sets, coeffs);
         if end.blocked {
             return end;
         }

@@ -24,10 +24,10 @@ use Rattle.phase_sum_meaning.specs.Building.{PathSum, initial, build}
 use Rattle.phase_sum_meaning.specs.Room.{roomFor, room, mostVariables, places}
 use Rattle.phase_sum_meaning.proofs.Wellformed.{live-build-from, live-build}
 use Rattle.phase_sum_meaning.proofs.Roominess.{room-build, tally-inverse-room}
-use Rattle.phase_sum_terms.specs.Workspace.{over, Stored}
-use Rattle.phase_sum_terms.specs.Unmerged.{gatesIn, appended, Buildable, Shows}
+use Rattle.phase_sum_terms.specs.Workspace.{over, Stored, Lent, members, Sized}
+use Rattle.phase_sum_terms.specs.Unmerged.{gatesIn, Builds, Buildable}
 use Rattle.phase_sum_terms.specs.declared.Sum.{Sum}
-use Rattle.phase_sum_terms.proofs.Storing.{over-padded, stored-behind}
+use Rattle.phase_sum_terms.proofs.Storing.{over-padded}
 use Rattle.phase_sum_terms.proofs.Acceptance.{buildable}
 use Rattle.comparison_meaning.specs.Reduction as reduction
 use Rattle.comparison_meaning.specs.Reduction.{pinned, reduceEnd}
@@ -37,89 +37,51 @@ use Rattle.comparison_meaning.specs.Demands.{Accepted, Demands, EqualIsRight, D
 use Rattle.comparison_meaning.proofs.Bytes.{demands-pair, room-fits-pair}
 use Rattle.comparison_types.specs.Call.{Said, says, refuses, numberOf, verdictOf, resultOf, saidOf, pairRows, workspaceRows, pairFault, compareRead, unlessFault, comparison, leftBy}
 use Rattle.comparison_types.specs.Clauses.{ForResult, Sound, Stops, Inputs, Clifford, CountsUp}
-use Rattle.comparison_types.specs.Inner.{members, sumOf, sumBuilt, Sized, Kept, AcceptedWith, numberIn, pairNumber, PairRead}
+use Rattle.comparison_types.specs.Inner.{Kept, AcceptedWith, numberIn, pairNumber, PairRead}
 use Rattle.comparison_types.specs.declared.Verdict.{Verdict}
 use Rattle.comparison_types.specs.declared.Verdict.the-variants.{Equal, Different, Undecided}
 use Rattle.comparison_types.specs.declared.Outcome.{Outcome}
 use Rattle.comparison_types.specs.declared.Refusal.{Refusal}
 use Rattle.comparison_types.specs.declared.Answer.{Answer}
 use Rattle.comparison_types.specs.declared.Answer.the-variants.{Compared}
-use Rattle.comparison_types.specs.declared.State.{State}
 use Rattle.comparison_types.specs.declared.PairCheck.{PairCheck}
 use Rattle.comparison_types.specs.declared.PairCheck.the-variants.{Good}
-use Rattle.phase_sum_terms.proofs.Running.{terms-gates, shows-sum}
+use Rattle.phase_sum_terms.proofs.Running.{AsLong}
 use Rattle.comparison_types.proofs.PairLaws.{part-of, gates-of}
 
--- the sum that was built of two lists
-module _
-    {n : ℕ} (gs hs : List Gate) {r : Sum} {ss cs ss₁ cs₁ : List ℕ}
-    (shows : Shows (build 0 n (joined gs hs)) n (appended n (joined gs hs)) r ss cs ss₁ cs₁)
-  where
-    -- as many variables left as both lists have H gates
-    built-live : length (build 0 n (joined gs hs) .live) ≡ hGates gs + hGates hs
-    built-live = live-build 0 n (joined gs hs) ∙ tally-append isH gs (inverseList hs) ∙ rw (hGates-inverse hs)
+-- a sum that was built of two lists in slices with room for them has room to be reduced
+pub built-sized :
+    (gs hs : List Gate) {r : Sum} {l l′ : Lent} →
+    Builds (joined gs hs) r l l′ →
+    AsLong l l′ →
+    length (l .wires) ≤ 16 →
+    length (l .flips) ≡ length (l .wires) →
+    room gs hs ≤ length (l .sets) →
+    room gs hs ≤ length (l .coeffs) →
+    Sized r l′
+built-sized gs hs {r} {l} {l′} b long few flips sets coeffs =
+    let n = length (l .wires) in
+    let fits = room-build 0 n (joined gs hs) in
+    let rooms : tally roomFor (joined gs hs) ≡ room gs hs = tally-append roomFor gs (inverseList hs) ∙ rw (tally-inverse-room hs) in
+    let left : length (members (r .live)) ≡ length (build 0 n (joined gs hs) .live) = ap (λ t. length (t .live)) (b .sum) in
+    record {
+      few = omega (arith, few, long .wires);
+      flips = omega (arith, flips, long .wires, long .flips);
+      sets = omega (arith, b .terms .counted, left, fits, rooms, sets, long .sets);
+      coeffs = omega (arith, b .terms .counted, left, fits, rooms, coeffs, long .coeffs);
+    }
 
-    -- the room of both lists
-    built-room : tally roomFor (joined gs hs) ≡ room gs hs
-    built-room = tally-append roomFor gs (inverseList hs) ∙ rw (tally-inverse-room hs)
-
-    -- it stands for the path sum of both lists
-    built-sum : sumBuilt r ss₁ cs₁ ≡ build 0 n (joined gs hs)
-    built-sum = shows-sum shows (hGates (joined gs hs)) (live-build-from 0 n (joined gs hs))
-
-    -- it can be begun
-    pub built-begins : n ≤ 16 → n + (hGates gs + hGates hs) ≤ mostVariables → (r .n ≤ 16) × (r .n ≤ r .next) × (r .next ≤ 64)
-    built-begins few variables =
-        (omega (arith, shows .qubits), omega (arith, shows .qubits, shows .next), omega (arith, shows .next, built-live))
-
-    -- with room in the first places, nothing changed behind them
-    pub built-kept : room gs hs ≤ places → Kept ss cs ss₁ cs₁
-    unfolding initial
-    built-kept fits =
-        let terms = room-build 0 n (joined gs hs) in
-        let behind =
-        stored-behind places (shows .terms) (omega (arith, terms-gates n (joined gs hs) (initial 0 n) .1, built-room))
-        (omega (arith, built-room))
-        in
-        record { sets = behind .0; coeffs = behind .1 }
-
-    -- a state that was begun with it
-    module _ (s : State) (same : sumOf s ss₁ cs₁ ≡ sumBuilt r ss₁ cs₁) (qubits : s .n ≡ r .n) (phase : s .phase ≡ r .phase) where
-      -- it has their qubits
-      pub begun-qubits : s .n ≡ n
-      begun-qubits = qubits ∙ shows .qubits
-
-      -- that is its sum
-      pub begun-sum : sumOf s ss₁ cs₁ ≡ build 0 n (joined gs hs)
-      begun-sum = same ∙ built-sum
-
-      -- it is sized
-      pub begun-sized : n ≤ 16 → room gs hs ≤ places → places ≤ length ss₁ → places ≤ length cs₁ → Sized s ss₁ cs₁
-      begun-sized few fits sets coeffs =
-          let count : s .phase .count ≡ length (build 0 n (joined gs hs) .phase .terms) =
-          ap (λ p. p .count) phase ∙ shows .terms .counted
-          in
-          let live : length (members (s .live)) ≡ length (build 0 n (joined gs hs) .live) = ap (λ t. length (t .live)) begun-sum in
-          record {
-            few = omega (arith, begun-qubits);
-            room = omega (arith, count, live, room-build 0 n (joined gs hs), built-room);
-            sets = sets;
-            coeffs = coeffs;
-          }
-
--- building, pinning, reducing and judging one after the other, each on as many qubits, is the comparison
+-- building, pinning, reducing and judging one after the other is the comparison
 pub decided :
-    (n : ℕ) (gs hs : List Gate) {k l m : ℕ} {u : PathSum} {p e : reduction.End} {o : Result} →
-    k ≡ n →
+    (n k : ℕ) (gs hs : List Gate) {u : PathSum} {p e : reduction.End} {o : Result} →
     u ≡ build 0 n (joined gs hs) →
-    l ≡ k →
+    k ≡ n →
     p ≡ pinned 0 k u →
-    m ≡ l →
     e ≡ reduceEnd p →
-    o ≡ judge 0 m e →
+    o ≡ judge 0 n e →
     o ≡ compare 0 n gs hs
 unfolding compare
-decided n gs hs on built on′ pins on″ reduces judges = rw (judges, reduces, pins, built, on″, on′, on)
+decided n k gs hs built same pins reduces judges = rw (judges, reduces, pins, same, built)
 
 -- where the checks find no number, no row of the table holds
 no-fault : (o : Option Fault) → none ≡ numberIn o → o ≡ none

@@ -9,9 +9,9 @@ use native.Mathlib.Omega.{arith}
 use lib.ListN.{length}
 use lib.Count.{ones, ones-le}
 use lib.Dec.{eqb}
-use borrow.Author.Tests.{eq-eqb, ne-eqb, eqb-true}
+use borrow.Author.Tests.{eq-eqb, ne-eqb, eqb-true, eqb-false}
 use Rattle.amplitude.specs.Bits.{bit}
-use Rattle.phase_sum_meaning.specs.Sets.{firstSuch, firstIn, Among, here, there}
+use Rattle.phase_sum_meaning.specs.Sets.{firstSuch, firstIn}
 use Rattle.phase_sum_meaning.specs.Phase.{Term, inOdd}
 use Rattle.phase_sum_meaning.specs.Parity.{Parity, rest}
 use Rattle.phase_sum_meaning.specs.Building.{PathSum}
@@ -30,32 +30,17 @@ use Rattle.phase_sum_meaning.specs.Stepping.{
   takeOut,
   turned,
 }
-use Rattle.phase_sum_meaning.specs.Room.{places}
 use Rattle.phase_sum_meaning.proofs.VariableLaws.{firstSuch-some}
-use Rattle.phase_sum_terms.specs.Workspace.{held, parityOf}
-use Rattle.phase_sum_terms.proofs.Storing.{length-held}
+use Rattle.phase_sum_terms.specs.Workspace.{held, parityOf, Lent, members, foundOf, sumOf, Sized}
 use Rattle.comparison_meaning.specs.Reduction.{addSum, addTurn, addJoin, goes, stuck, stepWith, stepAt, stops, blocks, reduceFrom}
 use Rattle.comparison_meaning.specs.Reduction as reduction
 use Rattle.comparison_types.specs.declared.Counts.{Counts}
-use Rattle.comparison_types.specs.declared.State.{State}
+use Rattle.phase_sum_terms.specs.declared.Sum.{Sum}
 use Rattle.comparison_types.specs.declared.End.{End}
-use Rattle.comparison_types.specs.declared.Found.{Found}
-use Rattle.comparison_types.specs.Inner.{
-  members,
-  sumOf,
-  countsOf,
-  endOf,
-  nextOf,
-  foundOf,
-  withCounts,
-  FewSteps,
-  Sized,
-  Became,
-  Follows,
-  Stays,
-}
-use Rattle.comparison_types.proofs.Members.{member-held, members-hold, members-without, length-members}
-use Rattle.comparison_types.proofs.Sizing.{roomIn, sized-next, follows-itself, follows-on}
+use Rattle.phase_sum_terms.specs.declared.Found.{Found}
+use Rattle.comparison_types.specs.Inner.{countsOf, endOf, nextOf, CountedTo, stepTo, Stays, Reduces}
+use Rattle.phase_sum_terms.proofs.Members.{member-held, members-without, length-members}
+use Rattle.phase_sum_terms.proofs.Running.{AsLong, long-after}
 
 -- tests that agree find the same number
 firstSuch-same : (f g : ℕ → Bool) → ((v : ℕ) → f v ≡ g v) → (vs : List ℕ) → firstSuch f vs ≡ firstSuch g vs
@@ -77,41 +62,6 @@ found-member test s v e = member-held s v (firstSuch-some test (members s) v e .
 -- a ready variable is one of the set
 pub ready-member : (s y : ℕ) (ts : List Term) → firstReady (members s) ts ≡ some y → (bit y s ≡ true) × (y < 64)
 ready-member s y ts e = found-member (λ v. not (inOdd v ts)) s y e
-
--- a list that holds something is not empty
-holds-some : {v : ℕ} {vs : List ℕ} → Among v vs → 1 ≤ length vs
-holds-some here = omega arith
-holds-some (there a) = omega arith
-
--- where a variable is left, the terms leave a place
-pub place-left : (s : State) (y : ℕ) {ss cs : List ℕ} → Sized s ss cs → bit y (s .live) ≡ true → y < 64 → s .phase .count < places
-place-left s y z held low = omega (arith, holds-some (members-hold (s .live) y held low), z .room)
-
--- the terms and the variables of a sized state have room
-room-within : (s : State) {ss cs : List ℕ} → Sized s ss cs → roomIn (sumOf s ss cs) ≤ places
-room-within s {ss} {cs} z =
-    let counted = length-held (s .phase .count) ss cs (omega (arith, z .room, z .sets)) (omega (arith, z .room, z .coeffs)) in
-    omega (arith, z .room)
-
--- a change that makes no more terms and variables, and other counts, follow a sized state
-pub follows-change :
-    (s r : State) (t : PathSum) (k : Counts) {ss cs ss′ cs′ : List ℕ} →
-    Sized s ss cs →
-    roomIn t ≤ roomIn (sumOf s ss cs) →
-    Became t (s .n) r ss cs ss′ cs′ →
-    length ss′ ≡ length ss →
-    length cs′ ≡ length cs →
-    Follows s (withCounts k r) ss cs ss′ cs′
-follows-change s r t k z room b ls lc =
-    let within = room-within s z in
-    let next =
-    sized-next t (s .n) r b (z .few) (omega arith) (omega (arith, z .sets)) (omega (arith, z .coeffs))
-    in
-    record {
-      qubits = b .qubits;
-      sized = record { few = next .few; room = next .room; sets = next .sets; coeffs = next .coeffs };
-      kept = b .kept;
-    }
 
 -- what a ready variable that is a sum gives
 step-sum :
@@ -167,39 +117,77 @@ kind-constraint k l even more = rw (ne-eqb (k % 2) 1 even) (go (eqb k 0) refl (e
     go true e false f = rw (e, f)
     go false e d f = rw e
 
--- the code's sum is the definition's step
-pub sum-next :
-    (s r : PathSum) (c d : reduction.Counts) (y k l : ℕ) →
-    k ≡ halfSum y (s .phase .terms) →
-    l ≡ oddHalves y (s .phase .terms) →
-    kindOf k l ≡ sum →
-    r ≡ takeOut y s →
-    d ≡ addSum c →
-    goes r d ≡ stepAt y s c
-sum-next s r c d y k l hk hl kind became counts = rw (became, counts, ← hk, ← hl) (sym (step-sum y k l s c kind))
-
--- the code's turn is the definition's step
-pub turn-next :
-    (s r : PathSum) (c d : reduction.Counts) (y k l : ℕ) →
-    k ≡ halfSum y (s .phase .terms) →
-    l ≡ oddHalves y (s .phase .terms) →
-    kindOf k l ≡ turn →
-    r ≡ turned k l (takeOut y s) →
-    d ≡ addTurn c →
-    goes r d ≡ stepAt y s c
-turn-next s r c d y k l hk hl kind became counts = rw (became, counts, ← hk, ← hl) (sym (step-turn y k l s c kind))
-
--- the code's join is the definition's step
-pub join-next :
-    (s r : PathSum) (c d : reduction.Counts) (y k l z : ℕ) (p : Parity) →
+-- where L holds a variable left, the lowest of them is the z of the step
+pub step-chosen :
+    (y k l : ℕ) (s : PathSum) (c : reduction.Counts) (z : ℕ) →
     firstIn (takeOut y s .live) l ≡ some z →
-    p ≡ rest z (constrained k l) →
-    r ≡ replace z p (takeOut y s) →
-    d ≡ addJoin c →
+    stepTo y z k l s c ≡ stepWith y k l s c
+unfolding stepTo
+step-chosen y k l s c z found = go (kindOf k l) refl
+  where
+    go : (t : Kind) → kindOf k l ≡ t → stepTo y z k l s c ≡ stepWith y k l s c
+    go sum e = rw (e, stepTo) (sym (step-sum y k l s c e))
+    go turn e = rw (e, stepTo) (sym (step-turn y k l s c e))
+    go constraint e = rw (e, stepTo) (sym (step-join y k l s c z e found))
+
+-- where it holds none and the step asks for none, any will do
+pub step-unchosen :
+    (y k l : ℕ) (s : PathSum) (c : reduction.Counts) (z : ℕ) →
+    (kindOf k l ≡ constraint → ⊥) →
+    stepTo y z k l s c ≡ stepWith y k l s c
+unfolding stepTo
+step-unchosen y k l s c z other = go (kindOf k l) refl
+  where
+    go : (t : Kind) → kindOf k l ≡ t → stepTo y z k l s c ≡ stepWith y k l s c
+    go sum e = rw (e, stepTo) (sym (step-sum y k l s c e))
+    go turn e = rw (e, stepTo) (sym (step-turn y k l s c e))
+    go constraint e = absurd (other e)
+
+-- the step at y and z is a sum
+pub sum-to :
+    (y z k l : ℕ) (s : PathSum) (c : reduction.Counts) → kindOf k l ≡ sum → stepTo y z k l s c ≡ goes (takeOut y s) (addSum c)
+unfolding stepTo
+sum-to y z k l s c e = rw (e, stepTo)
+
+-- it is a turn
+pub turn-to :
+    (y z k l : ℕ) (s : PathSum) (c : reduction.Counts) →
+    kindOf k l ≡ turn →
+    stepTo y z k l s c ≡ goes (turned k l (takeOut y s)) (addTurn c)
+unfolding stepTo
+turn-to y z k l s c e = rw (e, stepTo)
+
+-- it is a join
+pub join-to :
+    (y z k l : ℕ) (s : PathSum) (c : reduction.Counts) →
     kindOf k l ≡ constraint →
-    goes r d ≡ stepWith y k l s c
-join-next s r c d y k l z p found same became counts kind =
-    rw (became, counts, same) (sym (step-join y k l s c z kind found))
+    stepTo y z k l s c ≡ goes (replace z (rest z (constrained k l)) (takeOut y s)) (addJoin c)
+unfolding stepTo
+join-to y z k l s c e = rw (e, stepTo)
+
+-- what is no constraint and has an even C is a sum
+pub kind-rest : (k l : ℕ) → (k % 2 ≡ 1 → ⊥) → (kindOf k l ≡ constraint → ⊥) → kindOf k l ≡ sum
+unfolding kindOf
+kind-rest k l even other = go (eqb k 0) refl (eqb l 0) refl
+  where
+    go : (b : Bool) → eqb k 0 ≡ b → (d : Bool) → eqb l 0 ≡ d → kindOf k l ≡ sum
+    go true e true f = kind-sum k l (eqb-true k 0 e) (eqb-true l 0 f)
+    go true e false f = absurd (other (kind-constraint k l even (λ h i. eqb-false l 0 f i)))
+    go false e d f = absurd (other (kind-constraint k l even (λ h i. eqb-false k 0 e h)))
+
+-- a turn is no constraint
+pub turn-free : (k l : ℕ) → k % 2 ≡ 1 → kindOf k l ≡ constraint → ⊥
+turn-free k l odd e = apart (sym (kind-turn k l odd) ∙ e)
+  where
+    apart : turn ≡ constraint → ⊥
+    apart h = let z : _≡_ {A = ℕ} 0 1 = cc in absurd (omega arith)
+
+-- nor is a sum
+pub sum-free : (k l : ℕ) → k ≡ 0 → l ≡ 0 → kindOf k l ≡ constraint → ⊥
+sum-free k l nil empty e = apart (sym (kind-sum k l nil empty) ∙ e)
+  where
+    apart : sum ≡ constraint → ⊥
+    apart h = let z : _≡_ {A = ℕ} 0 1 = cc in absurd (omega arith)
 
 -- the first variable left besides y, as the code finds it
 pub found-left :
@@ -212,8 +200,8 @@ unfolding takeOut
 found-left s live y l w f left e h = rw (left, ← members-without live y, ← e) (sym h)
 
 -- an end that is not blocked
-abbrev unblocked : State → End
-unblocked s = record { blocked = false; by = record { set = 0; flipped = false }; state = s }
+abbrev unblocked : Sum → Counts → End
+unblocked s c = record { blocked = false; by = record { set = 0; flipped = false }; sum = s; counts = c }
 
 -- counts after a step: no other pins, and at most one more of each other
 record OneMore (c d : reduction.Counts) : Type 0 where
@@ -273,114 +261,107 @@ reduce-stuck :
 unfolding reduceFrom
 reduce-stuck m y s q c e h = rw (e, reduceFrom, ← h)
 
--- the first ready variable of a state
-abbrev pub readyIn : State → List ℕ → List ℕ → Option ℕ
-readyIn s ss cs = firstReady (members (s .live)) (held (s .phase .count) ss cs)
+-- the first ready variable of a sum
+abbrev pub readyIn : Sum → Lent → Option ℕ
+readyIn s l = firstReady (members (s .live)) (held (s .phase .count) (l .sets) (l .coeffs))
 
--- the reduction of a state s where it stands at the end e: what of its steps is left, and how few steps it took
-pub record Going (s : State) (ss cs : List ℕ) (steps : ℕ) (e : End) (ss′ cs′ : List ℕ) (left : ℕ) : Type 0 where
-  pub later : reduceFrom steps (sumOf s ss cs) (countsOf s) ≡ reduceFrom left (sumOf (e .state) ss′ cs′) (countsOf (e .state))
+-- the reduction of a sum where it stands at the end e: what of its steps is left, and how few steps it took
+pub record Going (s : Sum) (c : Counts) (l : Lent) (steps : ℕ) (e : End) (l′ : Lent) (left : ℕ) : Type 0 where
+  pub later : reduceFrom steps (sumOf s l) (countsOf c) ≡ reduceFrom left (sumOf (e .sum) l′) (countsOf (e .counts))
   pub free : e .blocked ≡ false
-  pub follows : Follows s (e .state) ss cs ss′ cs′
-  pub few : FewSteps (steps - left) (e .state)
+  pub sized : Sized (e .sum) l′
+  pub few : CountedTo (steps - left) (e .counts)
   pub within : left ≤ steps
   pub most : steps ≤ 64
-  pub sets : length ss′ ≡ length ss
-  pub coeffs : length cs′ ≡ length cs
+  pub long : AsLong l l′
 
 -- before the first step
 pub going-starts :
-    (s : State) (e : End) {ss cs : List ℕ} →
-    e ≡ unblocked s →
+    (s : Sum) (c : Counts) (e : End) {l : Lent} →
+    e ≡ unblocked s c →
     s .live < 2 ^ 64 →
-    FewSteps 0 s →
-    Sized s ss cs →
-    Going (e .state) ss cs (ones (s .live)) e ss cs (ones (s .live))
-going-starts s e start word few sized =
+    CountedTo 0 c →
+    Sized s l →
+    Going (e .sum) (e .counts) l (ones (s .live)) e l (ones (s .live))
+going-starts s c e start word few sized =
     rw
     start
     (record {
       later = refl;
       free = refl;
-      follows = follows-itself s sized;
+      sized = sized;
       few = omega (arith, few);
       within = omega arith;
       most = ones-le 64 (s .live) word;
-      sets = refl;
-      coeffs = refl;
+      long = record { wires = refl; flips = refl; sets = refl; coeffs = refl };
     })
+
+-- going from the first end is going from the sum
+pub going-from :
+    {s : Sum} {c : Counts} (first : End) {l : Lent} {steps : ℕ} {e : End} {l′ : Lent} {left : ℕ} →
+    first ≡ unblocked s c →
+    Going (first .sum) (first .counts) l steps e l′ left →
+    Going s c l steps e l′ left
+going-from first start g = rw start at g
+
+-- and the other way round
+pub going-back :
+    {s : Sum} {c : Counts} (first : End) {l : Lent} {steps : ℕ} {e : End} {l′ : Lent} {left : ℕ} →
+    first ≡ unblocked s c →
+    Going s c l steps e l′ left →
+    Going (first .sum) (first .counts) l steps e l′ left
+going-back first start g = rw start g
 
 -- few enough for one step more
 pub going-few :
-    {s : State} {ss cs : List ℕ} {steps : ℕ} {e : End} {ss′ cs′ : List ℕ} {left : ℕ} →
-    Going s ss cs steps e ss′ cs′ left →
-    FewSteps 64 (e .state)
+    {s : Sum} {c : Counts} {l : Lent} {steps : ℕ} {e : End} {l′ : Lent} {left : ℕ} →
+    Going s c l steps e l′ left →
+    CountedTo 64 (e .counts)
 going-few g = omega (arith, g .few, g .most)
 
--- what is to be shown of the end r of the reduction of s
-abbrev Reduces : State → List ℕ → List ℕ → End → List ℕ → List ℕ → Type 0
-Reduces s ss cs r ss′ cs′ =
-    (endOf r ss′ cs′ ≡ reduceFrom (length (members (s .live))) (sumOf s ss cs) (countsOf s))
-    × Follows s (r .state) ss cs ss′ cs′
-
--- what is told of the state of the first end is told of the state that is reduced
-from-start :
-    (s : State) (e r : End) (ss cs ss′ cs′ : List ℕ) →
-    e ≡ unblocked s →
-    s .live < 2 ^ 64 →
-    endOf r ss′ cs′ ≡ reduceFrom (ones (s .live)) (sumOf (e .state) ss cs) (countsOf (e .state)) →
-    Follows (e .state) (r .state) ss cs ss′ cs′ →
-    Reduces s ss cs r ss′ cs′
-from-start s e r ss cs ss′ cs′ start word told follows =
-    (rw (length-members (s .live) word) (rw start at told), rw start at follows)
-
--- the reduction of s, from its first end to the end e
+-- the reduction of s, which stands at the end e
 module _
-    (s : State)
-    (first e : End)
-    (ss cs ss′ cs′ : List ℕ)
+    (s : Sum)
+    (c : Counts)
+    (e : End)
+    (l l′ : Lent)
     (left : ℕ)
-    (start : first ≡ unblocked s)
     (word : s .live < 2 ^ 64)
-    (going : Going (first .state) ss cs (ones (s .live)) e ss′ cs′ left)
+    (going : Going s c l (ones (s .live)) e l′ left)
   where
     -- it ends here where it stops here
     going-stops :
-        reduceFrom left (sumOf (e .state) ss′ cs′) (countsOf (e .state)) ≡ stops (sumOf (e .state) ss′ cs′) (countsOf (e .state)) →
-        Reduces s ss cs e ss′ cs′
-    going-stops done = from-start s first e ss cs ss′ cs′ start word (rw (going .free) (sym (going .later ∙ done))) (going .follows)
+        reduceFrom left (sumOf (e .sum) l′) (countsOf (e .counts)) ≡ stops (sumOf (e .sum) l′) (countsOf (e .counts)) →
+        Reduces s c e l l′
+    going-stops done =
+        record { end = rw (length-members (s .live) word, going .free) (sym (going .later ∙ done)); sized = going .sized }
 
     -- no step is left
-    pub going-spent : left ≤ 0 → Reduces s ss cs e ss′ cs′
-    going-spent l = going-stops (reduce-spent left (sumOf (e .state) ss′ cs′) (countsOf (e .state)) l)
+    pub going-spent : left ≤ 0 → Reduces s c e l l′
+    going-spent h = going-stops (reduce-spent left (sumOf (e .sum) l′) (countsOf (e .counts)) h)
 
     -- none is ready
-    pub going-idle : readyIn (e .state) ss′ cs′ ≡ none → Reduces s ss cs e ss′ cs′
-    going-idle n = going-stops (reduce-none left (sumOf (e .state) ss′ cs′) (countsOf (e .state)) n)
+    pub going-idle : readyIn (e .sum) l′ ≡ none → Reduces s c e l l′
+    going-idle n = going-stops (reduce-none left (sumOf (e .sum) l′) (countsOf (e .counts)) n)
 
     -- a step at y to the end f
     module _
         (y : ℕ)
         (f : End)
-        (ss″ cs″ : List ℕ)
+        (l″ : Lent)
         (more : 1 ≤ left)
-        (ready : readyIn (e .state) ss′ cs′ ≡ some y)
-        (next : nextOf f ss″ cs″ ≡ stepAt y (sumOf (e .state) ss′ cs′) (countsOf (e .state)))
-        (follows : Follows (e .state) (f .state) ss′ cs′ ss″ cs″)
+        (ready : readyIn (e .sum) l′ ≡ some y)
+        (next : nextOf f l″ ≡ stepAt y (sumOf (e .sum) l′) (countsOf (e .counts)))
+        (sized : Sized (f .sum) l″)
       where
         -- the steps that are left are this one and those behind it
         split : left ≡ suc (left - 1)
         split = omega arith
 
         -- it goes
-        pub going-on :
-            f .blocked ≡ false →
-            length ss″ ≡ length ss′ →
-            length cs″ ≡ length cs′ →
-            Going (first .state) ss cs (ones (s .live)) f ss″ cs″ (left - 1)
-        going-on free ls lc =
-            let went :
-            goes (sumOf (f .state) ss″ cs″) (countsOf (f .state)) ≡ stepAt y (sumOf (e .state) ss′ cs′) (countsOf (e .state)) =
+        pub going-on : f .blocked ≡ false → AsLong l′ l″ → Going s c l (ones (s .live)) f l″ (left - 1)
+        going-on free long =
+            let went : goes (sumOf (f .sum) l″) (countsOf (f .counts)) ≡ stepAt y (sumOf (e .sum) l′) (countsOf (e .counts)) =
             rw free at next
             in
             let one = counted-step y _ _ _ _ _ _ went in
@@ -388,29 +369,22 @@ module _
             record {
               later = going .later ∙ rw (← split) at now;
               free = free;
-              follows = follows-on (going .follows) follows;
+              sized = sized;
               few = omega (arith, one, going .few, going .within);
               within = omega (arith, going .within);
               most = going .most;
-              sets = ls ∙ going .sets;
-              coeffs = lc ∙ going .coeffs;
+              long = long-after (going .long) long;
             }
 
         -- it is blocked
-        pub going-blocked : f .blocked ≡ true → Stays (e .state) f ss′ cs′ ss″ cs″ → Reduces s ss cs f ss″ cs″
+        pub going-blocked : f .blocked ≡ true → Stays (e .sum) (e .counts) f l′ l″ → Reduces s c f l l″
         going-blocked blocked stays =
-            let stopped : stuck (parityOf (f .by)) ≡ stepAt y (sumOf (e .state) ss′ cs′) (countsOf (e .state)) = rw blocked at next in
+            let stopped : stuck (parityOf (f .by)) ≡ stepAt y (sumOf (e .sum) l′) (countsOf (e .counts)) = rw blocked at next in
             let same = stays blocked in
             let now = reduce-stuck (left - 1) y _ _ _ ready stopped in
-            from-start
-            s
-            first
-            f
-            ss
-            cs
-            ss″
-            cs″
-            start
-            word
-            (rw (blocked, same .0, same .1, same .2) (sym (going .later ∙ rw (← split) at now)))
-            (follows-on (going .follows) follows)
+            record {
+              end =
+                  rw (length-members (s .live) word, blocked, same .0, same .1, same .2)
+                  (sym (going .later ∙ rw (← split) at now));
+              sized = sized;
+            }

@@ -4,115 +4,117 @@ use mathlib.Core.Path.{_≡_}
 use Prim.Native.Nat.{ℕ, zero, suc, _+_, _≤_}
 use mathlib.Core.Bool.{Bool, true, false, cond}
 use mathlib.Core.Option.{Option, none, some}
-use mathlib.Core.List.{List, [], _∷_}
+use mathlib.Core.List.{List}
 use lib.ListN.{length, drop}
 use Rattle.record_format.specs.Gate.{Gate}
 use Rattle.record_format.specs.Row.{Fault}
 use Rattle.record_format.specs.Reading.{accepted, read}
-use Rattle.amplitude.specs.Bits.{bit}
-use Rattle.phase_sum_meaning.specs.Sets.{from}
-use Rattle.phase_sum_meaning.specs.Parity.{Parity}
-use Rattle.phase_sum_meaning.specs.Building.{PathSum}
 use Rattle.phase_sum_meaning.specs.Room.{places}
-use Rattle.phase_sum_terms.specs.Workspace.{held, wiresOf, parityOf}
-use Rattle.phase_sum_terms.specs.Workspace as built
+use Rattle.phase_sum_meaning.specs.Parity.{Parity, rest}
+use Rattle.phase_sum_meaning.specs.Building.{PathSum}
+use Rattle.phase_sum_meaning.specs.Stepping.{replace, takeOut, turned, kindOf, sum, turn, constraint, constrained}
+use Rattle.phase_sum_terms.specs.Workspace.{parityOf, Lent, members, sumOf, Sized}
 use Rattle.comparison_meaning.specs.Reduction as reduction
 use Rattle.comparison_types.specs.Call.{numberOf}
 use Rattle.phase_sum_terms.specs.declared.Sum.{Sum}
+use Rattle.phase_sum_terms.specs.declared.Wire.{Wire}
 use Rattle.comparison_types.specs.declared.Answer.{Answer}
 use Rattle.comparison_types.specs.declared.Answer.the-variants.{Compared, Refused}
 use Rattle.comparison_types.specs.declared.Counts.{Counts}
-use Rattle.comparison_types.specs.declared.State.{State}
 use Rattle.comparison_types.specs.declared.End.{End}
 use Rattle.comparison_types.specs.declared.PairCheck.{PairCheck}
 use Rattle.comparison_types.specs.declared.PairCheck.the-variants.{Good}
 use Rattle.comparison_types.specs.declared.Comparison.{Comparison}
 use Rattle.comparison_types.specs.declared.Comparison.the-variants.{Done}
-use Rattle.comparison_types.specs.declared.Found.{Found}
-use Rattle.comparison_types.specs.declared.Found.the-variants.{Variable, Nothing}
 
--- the numbers of a list that are in a set
-unfoldable pub among : ℕ → List ℕ → List ℕ
-among s [] = []
-among s (v ∷ vs) = cond (bit v s) (v ∷ among s vs) (among s vs)
+-- the counts that a count of steps stands for
+abbrev pub countsOf : Counts → reduction.Counts
+countsOf c = record { pins = c .pins; sums = c .sums; turns = c .turns; joins = c .joins }
 
--- the members of a set of at most 64 variables, in rising order
-abbrev pub members : ℕ → List ℕ
-members s = among s (from 0 64)
-
--- the path sum that a state and its workspaces stand for
-abbrev pub sumOf : State → List ℕ → List ℕ → PathSum
-sumOf s ss cs =
-    record {
-      phase = record { constant = s .phase .constant; terms = held (s .phase .count) ss cs };
-      wires = wiresOf (s .n) (s .wires);
-      live = members (s .live);
-    }
-
--- the counts that a state carries
-abbrev pub countsOf : State → reduction.Counts
-countsOf s =
-    record { pins = s .counts .pins; sums = s .counts .sums; turns = s .counts .turns; joins = s .counts .joins }
+-- no step yet
+abbrev pub noSteps : Counts
+noSteps = record { pins = 0; sums = 0; turns = 0; joins = 0 }
 
 -- the parity that blocks, if any does
 abbrev pub blockedBy : Bool → Parity → Option Parity
 blockedBy true q = some q
 blockedBy false q = none
 
--- the end that an end and its workspaces stand for
-abbrev pub endOf : End → List ℕ → List ℕ → reduction.End
-endOf e ss cs =
-    record { blockedBy = blockedBy (e .blocked) (parityOf (e .by)); sum = sumOf (e .state) ss cs; counts = countsOf (e .state) }
+-- an end that no parity blocks
+abbrev pub unblocked : Wire → Sum → Counts → End
+unblocked w s c = record { blocked = false; by = w; sum = s; counts = c }
 
--- what a search for a variable found
-abbrev pub foundOf : Found → Option ℕ
-foundOf (Variable v) = some v
-foundOf Nothing = none
-
--- a state with other counts
-abbrev pub withCounts : Counts → State → State
-withCounts c s = record { n = s .n; live = s .live; wires = s .wires; phase = s .phase; counts = c }
+-- the end that an end and its slices stand for
+abbrev pub endOf : End → Lent → reduction.End
+endOf e l =
+    record { blockedBy = blockedBy (e .blocked) (parityOf (e .by)); sum = sumOf (e .sum) l; counts = countsOf (e .counts) }
 
 -- at most k sums, k turns and k joins so far, and at most 16 pins
-pub record FewSteps (k : ℕ) (s : State) : Type 0 where
-  pub pins : s .counts .pins ≤ 16
-  pub sums : s .counts .sums ≤ k
-  pub turns : s .counts .turns ≤ k
-  pub joins : s .counts .joins ≤ k
+pub record CountedTo (k : ℕ) (c : Counts) : Type 0 where
+  pub pins : c .pins ≤ 16
+  pub sums : c .sums ≤ k
+  pub turns : c .turns ≤ k
+  pub joins : c .joins ≤ k
 
--- what a state and its workspaces must be: at most 16 qubits, and room in the first places for the terms and one more for each variable
--- left, of which places both workspaces have enough
-pub record Sized (s : State) (ss cs : List ℕ) : Type 0 where
-  pub few : s .n ≤ 16
-  pub room : s .phase .count + length (members (s .live)) ≤ places
-  pub sets : places ≤ length ss
-  pub coeffs : places ≤ length cs
+-- the step at a ready y, its C and L given, where a join replaces z
+unfoldable pub stepTo : ℕ → ℕ → ℕ → ℕ → PathSum → reduction.Counts → reduction.Next
+stepTo y z k l s c =
+    elim (kindOf k l) [
+      | sum ↦ reduction.goes (takeOut y s) (reduction.addSum c)
+      | turn ↦ reduction.goes (turned k l (takeOut y s)) (reduction.addTurn c)
+      | constraint ↦ reduction.goes (replace z (rest z (constrained k l)) (takeOut y s)) (reduction.addJoin c)
+    ]
+
+-- what one step gives, blocked or not
+abbrev pub nextOf : End → Lent → reduction.Next
+nextOf e l =
+    cond (e .blocked) (reduction.stuck (parityOf (e .by))) (reduction.goes (sumOf (e .sum) l) (countsOf (e .counts)))
+
+-- a blocked step has changed nothing
+abbrev pub Stays : Sum → Counts → End → Lent → Lent → Type 0
+Stays s c e l l′ = e .blocked ≡ true → (e .sum ≡ s) × (e .counts ≡ c) × (l′ ≡ l)
+
+-- what pinning qubit q makes of the sum s with the counts c: the end e, and what is left to pin is what the definition has left
+pub record PinnedQubit (q : ℕ) (s : Sum) (c : Counts) (e : End) (l l′ : Lent) : Type 0 where
+  pub steps : (m : ℕ) →
+      reduction.pinFrom 0 (suc m) q (sumOf s l) (countsOf c)
+      ≡ cond (e .blocked) (endOf e l′) (reduction.pinFrom 0 m (suc q) (sumOf (e .sum) l′) (countsOf (e .counts)))
+  pub sized : Sized (e .sum) l′
+  pub pins : e .counts .pins ≤ q + 1
+  pub others : CountedTo 0 c → CountedTo 0 (e .counts)
+
+-- what pinning every qubit of the sum s ends in
+pub record PinnedAll (s : Sum) (e : End) (l l′ : Lent) : Type 0 where
+  pub end : endOf e l′ ≡ reduction.pinned 0 (length (l .wires)) (sumOf s l)
+  pub sized : Sized (e .sum) l′
+  pub steps : CountedTo 0 (e .counts)
+
+-- what the step at y and z makes of the sum s with the counts c, where C is k and L is u
+pub record StepsTo (y z k u : ℕ) (s : Sum) (c : Counts) (e : End) (l l′ : Lent) : Type 0 where
+  pub next : reduction.goes (sumOf (e .sum) l′) (countsOf (e .counts)) ≡ stepTo y z k u (sumOf s l) (countsOf c)
+  pub free : e .blocked ≡ false
+  pub sized : Sized (e .sum) l′
+
+-- what the step at y makes of it, blocked or not
+pub record StepsAt (y : ℕ) (s : Sum) (c : Counts) (e : End) (l l′ : Lent) : Type 0 where
+  pub next : nextOf e l′ ≡ reduction.stepAt y (sumOf s l) (countsOf c)
+  pub stays : Stays s c e l l′
+  pub sized : Sized (e .sum) l′
+
+-- what the steps of the sum s with the counts c end in
+pub record Reduces (s : Sum) (c : Counts) (e : End) (l l′ : Lent) : Type 0 where
+  pub end : endOf e l′ ≡ reduction.reduceFrom (length (members (s .live))) (sumOf s l) (countsOf c)
+  pub sized : Sized (e .sum) l′
+
+-- what reducing the end e makes of it
+pub record ReducesEnd (e r : End) (l l′ : Lent) : Type 0 where
+  pub end : endOf r l′ ≡ reduction.reduceEnd (endOf e l)
+  pub sized : Sized (r .sum) l′
 
 -- the workspaces are as they were behind the first places
 pub record Kept (ss cs ss′ cs′ : List ℕ) : Type 0 where
   pub sets : drop places ss′ ≡ drop places ss
   pub coeffs : drop places cs′ ≡ drop places cs
-
--- a state r and its workspaces stand for the sum t, on as many qubits as before, and nothing changed behind the first places
-pub record Became (t : PathSum) (n : ℕ) (r : State) (ss cs ss′ cs′ : List ℕ) : Type 0 where
-  pub sum : sumOf r ss′ cs′ ≡ t
-  pub counted : r .phase .count ≡ length (t .phase .terms)
-  pub qubits : r .n ≡ n
-  pub kept : Kept ss cs ss′ cs′
-
--- a state and its workspaces after another: as many qubits, still sized, and nothing changed behind the first places
-pub record Follows (s r : State) (ss cs ss′ cs′ : List ℕ) : Type 0 where
-  pub qubits : r .n ≡ s .n
-  pub sized : Sized r ss′ cs′
-  pub kept : Kept ss cs ss′ cs′
-
--- what one step gives, blocked or not
-abbrev pub nextOf : End → List ℕ → List ℕ → reduction.Next
-nextOf e ss cs = cond (e .blocked) (reduction.stuck (parityOf (e .by))) (reduction.goes (sumOf (e .state) ss cs) (countsOf (e .state)))
-
--- a blocked step has changed nothing
-abbrev pub Stays : State → End → List ℕ → List ℕ → List ℕ → List ℕ → Type 0
-Stays s e ss cs ss′ cs′ = e .blocked ≡ true → (e .state ≡ s) × (ss′ ≡ ss) × (cs′ ≡ cs)
 
 -- the input that a search answered; 0 is none
 unfoldable pub inputOf : ℕ → Option ℕ
@@ -149,7 +151,3 @@ answerOf (Comparison.Refused r) = Refused r
 abbrev pub ComparedRead : Comparison → List ℕ → List ℕ → Type 0
 ComparedRead (Done o g h) s t = (n : ℕ) × AcceptedWith n g s × AcceptedWith n h t
 ComparedRead (Comparison.Refused r) s t = Unit {0}
-
--- the path sum that a built sum and its workspaces stand for
-abbrev pub sumBuilt : Sum → List ℕ → List ℕ → PathSum
-sumBuilt s ss cs = built.sumOf s ss cs

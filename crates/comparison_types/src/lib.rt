@@ -1,4 +1,4 @@
-// The comparison layer, its base: answers and numbers, the state of a reduction, and what the contracts of the layer say (specs/). Document
+// The comparison layer, its base: answers and numbers, where a reduction stands, and what the contracts of the layer say (specs/). Document
 // 01, "Reducing it", "Report, pick, builder" and "Where a call is turned down". Licensees use `comparison`.
 ghost use mathlib.Core.Path.{_≡_};
 ghost use Prim.Native.Nat.{_≤_};
@@ -6,9 +6,8 @@ ghost use Rattle.record_format.specs.Format.{lastVerdict};
 ghost use Rattle.record_format.specs.Answer.{fields};
 ghost use Rattle.comparison_meaning.specs.Verdict.{numbers};
 ghost use Rattle.comparison_types.specs.Call.{numberOf, verdictNumber, resultOf};
-use phase_sum_terms::Phase;
+use phase_sum_terms::Sum;
 use phase_sum_terms::Wire;
-use phase_sum_terms::Wires;
 use record_format::Report;
 
 // The three verdicts.
@@ -97,27 +96,12 @@ pub struct Counts {
     pub joins: u8,
 }
 
-// A path sum under reduction: its terms stand in the workspaces.
-pub struct State {
-    pub n: usize,
-    // the path variables that are left, as a set
-    pub live: u64,
-    pub wires: Wires,
-    pub phase: Phase,
-    pub counts: Counts,
-}
-
 // Where pinning or reducing stands: blocked by a parity, or not.
 pub struct End {
     pub blocked: bool,
     pub by: Wire,
-    pub state: State,
-}
-
-// What a search for a variable finds.
-pub enum Found {
-    Variable(u32),
-    Nothing,
+    pub sum: Sum,
+    pub counts: Counts,
 }
 
 // What the checks on a pair find: the qubits of both lists, the gates of the first and those of the second; or why it is turned down.

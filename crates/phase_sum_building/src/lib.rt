@@ -1,13 +1,14 @@
 // The phase-sum layer, building: the path sum of a pair of gate lists. Document 01, "Building the sum". The terms are put one behind the
 // other as the gates run, and merged once at the end.
 ghost use mathlib.Core.Path.{_≡_};
-ghost use Prim.Native.Nat.{ℕ, _%_, _≤_};
+ghost use Prim.Native.Nat.{ℕ, _-_, _%_, _≤_};
 ghost use mathlib.Core.List.{List};
 ghost use lib.ListN.{length};
 ghost use Rattle.record_format.specs.Gate.{inverseList};
-ghost use Rattle.phase_sum_meaning.specs.Building.{initial, build};
-ghost use Rattle.phase_sum_terms.specs.Workspace.{slices, lent, before, after};
-ghost use Rattle.phase_sum_terms.specs.Unmerged.{gatesIn, joinedIn, appended, Fits, Leaves, RunsAll, Builds, Buildable, Shows};
+ghost use Rattle.phase_sum_meaning.specs.Sets.{from};
+ghost use Rattle.phase_sum_meaning.specs.Building.{initial};
+ghost use Rattle.phase_sum_terms.specs.Workspace.{slices, lent, before, after, members};
+ghost use Rattle.phase_sum_terms.specs.Unmerged.{gatesIn, joinedIn, Fits, Leaves, RunsAll, Builds, Buildable};
 use phase_sum_gates::move_wires;
 use phase_sum_gates::moves;
 use phase_sum_gates::run_gate;
@@ -15,8 +16,8 @@ use phase_sum_merging::canonical;
 use phase_sum_terms::Phase;
 use phase_sum_terms::Run;
 use phase_sum_terms::Sum;
-use phase_sum_terms::Wires;
 use phase_sum_terms::sets::single;
+use phase_sum_terms::sets::union;
 use record_format::gate::inverse_kind;
 
 // A whole list of gates, by its bytes, in list order.
@@ -96,48 +97,43 @@ fn start(ws: &mut [u64], fs: &mut [bool]) -> Run
     }
 }
 
-// The sum of the first list followed by the second inverted, both by their bytes, merged.
-pub fn build_in(
+// The variables from n up to next, as a set.
+fn path_variables(n: u32, next: u32) -> u64
+    requires { ⌜ (n ≤ next) × (next ≤ 64) ⌝ }
+    ensures { λ r. ⌜ members r ≡ from n (next - n) ⌝ }
+{
+    let mut set = 0;
+    let mut v = n;
+    while v < next {
+        set = union(set, single(v));
+        v += 1;
+    }
+    set
+}
+
+// The sum of the first list followed by the second inverted, both by their bytes, merged, on as many qubits as there are wires.
+pub fn build(
     first: &[u8],
     second: &[u8],
     ws: &mut [u64],
     fs: &mut [bool],
     sets: &mut [u64],
     coeffs: &mut [u8],
-) -> Run
+) -> Sum
     requires { ⌜ (length (now fs) ≡ length (now ws)) × Buildable (length (now ws)) (now first) (now second) (now sets) (now coeffs) ⌝ }
     ensures { λ r. ⌜ Builds (joinedIn (now (first .entry)) (now (second .entry))) r (before ws fs sets coeffs) (after ws fs sets coeffs) ⌝ }
 {
+    let n = ws.len();
     let begun = start(ws, fs);
     let half = forwards(begun, first, ws, fs, sets, coeffs);
     let whole = backwards(half, second, ws, fs, sets, coeffs);
     let phase = whole.phase;
     let count = phase.count;
-    Run {
-        next: whole.next,
+    Sum {
+        live: path_variables(n as u32, whole.next),
         phase: Phase {
             constant: phase.constant,
             count: canonical(sets, coeffs, count),
         },
-    }
-}
-
-// The same with wires of its own, handed on by value.
-pub fn build(n: usize, first: &[u8], second: &[u8], sets: &mut [u64], coeffs: &mut [u8]) -> Sum
-    requires { ⌜ Buildable n (now first) (now second) (now sets) (now coeffs) ⌝ }
-    ensures { λ r. ⌜ Shows (build 0 n (joinedIn (now (first .entry)) (now (second .entry)))) n (appended n (joinedIn (now (first .entry)) (now (second .entry)))) r (now (sets .entry)) (now (coeffs .entry)) (now (sets .exit)) (now (coeffs .exit)) ⌝ }
-{
-    let mut ws = [0u64; 16];
-    let mut fs = [false; 16];
-    let run = build_in(first, second, &mut ws[..n], &mut fs[..n], sets, coeffs);
-    let phase = run.phase;
-    Sum {
-        n,
-        next: run.next,
-        wires: Wires {
-            sets: ws,
-            flips: fs,
-        },
-        phase,
     }
 }

@@ -4,34 +4,24 @@ ghost use mathlib.Core.Path.{_≡_};
 ghost use Prim.Native.Nat.{ℕ, _+_, _<_, _≤_};
 ghost use mathlib.Core.Bool.{true, false};
 ghost use mathlib.Core.List.{[], _∷_, _++_};
-ghost use lib.ListN.{length, getD, set};
+ghost use lib.ListN.{length};
 ghost use Rattle.record_format.specs.Gate.{Within, gateOf, raw, one, two, X, Y, CX, CZ, SWAP};
-ghost use Rattle.phase_sum_meaning.specs.Parity.{of, _⊕_};
+ghost use Rattle.phase_sum_meaning.specs.Parity.{_⊕_};
 ghost use Rattle.phase_sum_meaning.specs.Building.{PathSum};
-ghost use Rattle.phase_sum_terms.specs.Workspace.{held, parityOf, wiresOf, zipWires, Stored, lent, before, after};
+ghost use Rattle.phase_sum_terms.specs.Workspace.{held, parityOf, zipWires, Stored, lent, before, after};
 ghost use Rattle.phase_sum_terms.specs.Unmerged.{phaseTerm, productTerms, appendGate, sumIn, Fits, Leaves, Runs, movesOnly, Moves};
 ghost use Rattle.phase_sum_terms.specs.Inner.{onH, phaseConstant, productConstant, appendPhase};
 use phase_sum_terms::Phase;
 use phase_sum_terms::Run;
 use phase_sum_terms::Wire;
-use phase_sum_terms::Wires;
 use phase_sum_terms::sets::exclusive_or;
 use phase_sum_terms::sets::single;
 use phase_sum_terms::terms::add;
 use phase_sum_terms::terms::append;
 use phase_sum_terms::terms::negate;
+use phase_sum_terms::wires::set_wire;
+use phase_sum_terms::wires::wire;
 use record_format::gate;
-
-// Wire q.
-pub fn wire(wires: Wires, q: usize) -> Wire
-    requires { ⌜ q < 16 ⌝ }
-    ensures { λ r. ⌜ ((n : ℕ) → n ≤ 16 → q < n → parityOf r ≡ getD (wiresOf n wires) q (of 0)) ⌝ }
-{
-    Wire {
-        set: wires.sets[q],
-        flipped: wires.flips[q],
-    }
-}
 
 // The exclusive or of two wires.
 pub fn both(u: Wire, v: Wire) -> Wire
@@ -71,26 +61,6 @@ pub fn put_product(phase: Phase, u: Wire, v: Wire, sets: &mut [u64], coeffs: &mu
     let once = put_phase(phase, 2, u, sets, coeffs);
     let twice = put_phase(once, 2, v, sets, coeffs);
     put_phase(twice, 6, both(u, v), sets, coeffs)
-}
-
-// Wire q.
-pub fn wire_at(ws: &[u64], fs: &[bool], q: usize) -> Wire
-    requires { ⌜ (q < length (now ws)) × (q < length (now fs)) ⌝ }
-    ensures { λ r. ⌜ parityOf r ≡ getD (zipWires (now (ws .entry)) (now (fs .entry))) q (of 0) ⌝ }
-{
-    Wire {
-        set: ws[q],
-        flipped: fs[q],
-    }
-}
-
-// Wire q set anew.
-pub fn set_wire(ws: &mut [u64], fs: &mut [bool], q: usize, w: Wire)
-    requires { ⌜ (q < length (now ws)) × (q < length (now fs)) ⌝ }
-    ensures { λ _. ⌜ zipWires (now (ws .exit)) (now (fs .exit)) ≡ set (zipWires (now (ws .entry)) (now (fs .entry))) q (parityOf w) ⌝ }
-{
-    ws[q] = w.set;
-    fs[q] = w.flipped;
 }
 
 // X: wire q complemented.
@@ -184,7 +154,7 @@ fn diagonal(
     let phase = run.phase;
     Run {
         next: run.next,
-        phase: put_phase(phase, c, wire_at(ws, fs, q), sets, coeffs),
+        phase: put_phase(phase, c, wire(ws, fs, q), sets, coeffs),
     }
 }
 
@@ -201,7 +171,7 @@ fn y_gate(
     ensures { λ r. ⌜ Runs (one Y q) run r (before ws fs sets coeffs) (after ws fs sets coeffs) ⌝ }
 {
     let old = run.phase;
-    let phase = put_phase(old, 4, wire_at(ws, fs, q), sets, coeffs);
+    let phase = put_phase(old, 4, wire(ws, fs, q), sets, coeffs);
     flip_wire(ws, fs, q);
     Run {
         next: run.next,
@@ -230,7 +200,7 @@ fn hadamard(
         set: single(next),
         flipped: false,
     };
-    let phase = put_product(old, wire_at(ws, fs, q), new, sets, coeffs);
+    let phase = put_product(old, wire(ws, fs, q), new, sets, coeffs);
     set_wire(ws, fs, q, new);
     Run {
         next: next + 1,
@@ -254,7 +224,7 @@ fn controlled_z(
     let phase = run.phase;
     Run {
         next: run.next,
-        phase: put_product(phase, wire_at(ws, fs, a), wire_at(ws, fs, b), sets, coeffs),
+        phase: put_product(phase, wire(ws, fs, a), wire(ws, fs, b), sets, coeffs),
     }
 }
 

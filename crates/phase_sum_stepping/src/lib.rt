@@ -10,30 +10,22 @@ ghost use Rattle.amplitude.specs.Bits.{bit};
 ghost use Rattle.phase_sum_meaning.specs.Parity.{of, replaceIn};
 ghost use Rattle.phase_sum_meaning.specs.Phase.{minus, rebuild, inOdd};
 ghost use Rattle.phase_sum_meaning.specs.Stepping.{replace, outOf, halfSum, oddHalves, takeOut, turned};
-ghost use Rattle.phase_sum_terms.specs.Workspace.{held, phaseOf, alone, parityOf, wiresOf, Stored, Phased, Rebuilt};
+ghost use Rattle.phase_sum_terms.specs.Workspace.{held, parityOf, zipWires, Stored, lent, before, after, Stands, Changed, TermsChanged};
 ghost use Rattle.phase_sum_terms.specs.Inner.{sentTo};
 use phase_sum_merging::canonical;
 use phase_sum_terms::Phase;
+use phase_sum_terms::Sum;
 use phase_sum_terms::Wire;
-use phase_sum_terms::Wires;
 use phase_sum_terms::sets::exclusive_or;
 use phase_sum_terms::sets::holds;
 use phase_sum_terms::sets::single;
 use phase_sum_terms::sets::union;
+use phase_sum_terms::sets::without;
 use phase_sum_terms::terms::add;
 use phase_sum_terms::terms::append;
 use phase_sum_terms::terms::negate;
-
-// A set without a variable.
-pub fn without(set: u64, v: u32) -> u64
-    requires { ⌜ v < 64 ⌝ }
-    ensures { λ r. ⌜ r ≡ outOf v set ⌝ }
-{
-    if holds(set, v) {
-        return exclusive_or(set, single(v));
-    }
-    set
-}
+use phase_sum_terms::wires::set_wire;
+use phase_sum_terms::wires::wire;
 
 // A wire with the variable z replaced by the parity p.
 fn replace_in(w: Wire, z: u32, p: Wire) -> Wire
@@ -49,24 +41,17 @@ fn replace_in(w: Wire, z: u32, p: Wire) -> Wire
     w
 }
 
-// The variable z replaced by the parity p in the first n wires.
-pub fn replace_in_wires(wires: Wires, n: usize, z: u32, p: Wire) -> Wires
-    requires { ⌜ (n ≤ 16) × (z < 64) ⌝ }
-    ensures { λ r. ⌜ wiresOf n r ≡ map (replaceIn z (parityOf p)) (wiresOf n wires) ⌝ }
+// The variable z replaced by the parity p in every wire.
+fn replace_in_wires(ws: &mut [u64], fs: &mut [bool], z: u32, p: Wire)
+    requires { ⌜ (z < 64) × (length (now fs) ≡ length (now ws)) ⌝ }
+    ensures { λ _. ⌜ zipWires (now (ws .exit)) (now (fs .exit)) ≡ map (replaceIn z (parityOf p)) (zipWires (now (ws .entry)) (now (fs .entry))) ⌝ }
 {
-    let mut out = wires;
     let mut q = 0;
-    while q < n {
-        let old = Wire {
-            set: out.sets[q],
-            flipped: out.flips[q],
-        };
-        let new = replace_in(old, z, p);
-        out.sets[q] = new.set;
-        out.flips[q] = new.flipped;
+    while q < ws.len() {
+        let new = replace_in(wire(ws, fs, q), z, p);
+        set_wire(ws, fs, q, new);
         q += 1;
     }
-    out
 }
 
 // A term's coefficient: negated where its set became complemented.
@@ -116,16 +101,29 @@ fn replace_unmerged(sets: &mut [u64], coeffs: &mut [u8], phase: Phase, z: u32, p
     constant
 }
 
-// The variable z replaced by the parity p in every term, and merged.
-pub fn replace_in_terms(sets: &mut [u64], coeffs: &mut [u8], phase: Phase, z: u32, p: Wire) -> Phase
-    requires { ⌜ (z < 64) × (phase .count ≤ length (now sets)) × (phase .count ≤ length (now coeffs)) ⌝ }
-    ensures { λ r. ⌜ Rebuilt (λ u. replaceIn z (parityOf p) (of u)) phase r (now (sets .entry)) (now (coeffs .entry)) (now (sets .exit)) (now (coeffs .exit)) ⌝ }
+// The variable z replaced by the parity p in all terms and wires, and the terms merged.
+pub fn replace(
+    sum: Sum,
+    z: u32,
+    p: Wire,
+    ws: &mut [u64],
+    fs: &mut [bool],
+    sets: &mut [u64],
+    coeffs: &mut [u8],
+) -> Sum
+    requires { ⌜ (z < 64) × Stands sum (lent ws fs sets coeffs) ⌝ }
+    ensures { λ r. ⌜ Changed (replace z (parityOf p)) (sum .phase .count) sum r (before ws fs sets coeffs) (after ws fs sets coeffs) ⌝ }
 {
+    let phase = sum.phase;
     let count = phase.count;
+    replace_in_wires(ws, fs, z, p);
     let constant = replace_unmerged(sets, coeffs, phase, z, p);
-    Phase {
-        constant,
-        count: canonical(sets, coeffs, count),
+    Sum {
+        live: without(sum.live, z),
+        phase: Phase {
+            constant,
+            count: canonical(sets, coeffs, count),
+        },
     }
 }
 
@@ -141,16 +139,20 @@ fn take_out_unmerged(sets: &mut [u64], count: usize, y: u32)
     }
 }
 
-// The variable y taken out of every term, and merged.
-pub fn take_out(sets: &mut [u64], coeffs: &mut [u8], phase: Phase, y: u32) -> Phase
-    requires { ⌜ (y < 64) × (phase .count ≤ length (now sets)) × (phase .count ≤ length (now coeffs)) ⌝ }
-    ensures { λ r. ⌜ Rebuilt (λ u. of (outOf y u)) phase r (now (sets .entry)) (now (coeffs .entry)) (now (sets .exit)) (now (coeffs .exit)) ⌝ }
+// The variable y taken out of every term, and the terms merged.
+pub fn take_out(sum: Sum, y: u32, sets: &mut [u64], coeffs: &mut [u8]) -> Sum
+    requires { ⌜ (y < 64) × (sum .phase .count ≤ length (now sets)) × (sum .phase .count ≤ length (now coeffs)) ⌝ }
+    ensures { λ r. ⌜ TermsChanged (takeOut y) (sum .phase .count) sum r sets coeffs ⌝ }
 {
+    let phase = sum.phase;
     let count = phase.count;
     take_out_unmerged(sets, count, y);
-    Phase {
-        constant: add(phase.constant, 0),
-        count: canonical(sets, coeffs, count),
+    Sum {
+        live: without(sum.live, y),
+        phase: Phase {
+            constant: add(phase.constant, 0),
+            count: canonical(sets, coeffs, count),
+        },
     }
 }
 
@@ -168,31 +170,49 @@ fn turn_coeff(c: u8) -> u8
     if c == 1 { 6 } else { 2 }
 }
 
-// The variable y taken out of every term, the constant and the term of a turn added, and all merged.
-pub fn turn_out(sets: &mut [u64], coeffs: &mut [u8], phase: Phase, y: u32, c: u8, l: u64) -> Phase
-    requires { ⌜ (y < 64) × (phase .count < length (now sets)) × (phase .count < length (now coeffs)) ⌝ }
-    ensures { λ r. ⌜ Phased (turned c l (takeOut y (alone (phaseOf phase (now (sets .entry)) (now (coeffs .entry))))) .phase) (phase .count + 1) r (now (sets .entry)) (now (coeffs .entry)) (now (sets .exit)) (now (coeffs .exit)) ⌝ }
+// The variable y taken out of every term, the constant and the term of a turn of c on l added, and the terms merged.
+pub fn turn_out(sum: Sum, y: u32, c: u8, l: u64, sets: &mut [u64], coeffs: &mut [u8]) -> Sum
+    requires { ⌜ (y < 64) × (sum .phase .count < length (now sets)) × (sum .phase .count < length (now coeffs)) ⌝ }
+    ensures { λ r. ⌜ TermsChanged (λ s. turned c l (takeOut y s)) (sum .phase .count + 1) sum r sets coeffs ⌝ }
 {
+    let phase = sum.phase;
     let count = phase.count;
     take_out_unmerged(sets, count, y);
     let more = append(sets, coeffs, count, l, turn_coeff(c));
-    Phase {
-        constant: add(phase.constant, turn_constant(c)),
-        count: canonical(sets, coeffs, more),
+    Sum {
+        live: without(sum.live, y),
+        phase: Phase {
+            constant: add(phase.constant, turn_constant(c)),
+            count: canonical(sets, coeffs, more),
+        },
     }
 }
 
-// The variable y taken out of every term, then z replaced by the parity p in every term, and all merged.
-pub fn join_out(sets: &mut [u64], coeffs: &mut [u8], phase: Phase, y: u32, z: u32, p: Wire) -> Phase
-    requires { ⌜ (y < 64) × (z < 64) × (phase .count ≤ length (now sets)) × (phase .count ≤ length (now coeffs)) ⌝ }
-    ensures { λ r. ⌜ Phased (replace z (parityOf p) (takeOut y (alone (phaseOf phase (now (sets .entry)) (now (coeffs .entry))))) .phase) (phase .count) r (now (sets .entry)) (now (coeffs .entry)) (now (sets .exit)) (now (coeffs .exit)) ⌝ }
+// The variable y taken out of every term, then z replaced by the parity p in all terms and wires, and the terms merged.
+pub fn join_out(
+    sum: Sum,
+    y: u32,
+    z: u32,
+    p: Wire,
+    ws: &mut [u64],
+    fs: &mut [bool],
+    sets: &mut [u64],
+    coeffs: &mut [u8],
+) -> Sum
+    requires { ⌜ (y < 64) × (z < 64) × Stands sum (lent ws fs sets coeffs) ⌝ }
+    ensures { λ r. ⌜ Changed (λ s. replace z (parityOf p) (takeOut y s)) (sum .phase .count) sum r (before ws fs sets coeffs) (after ws fs sets coeffs) ⌝ }
 {
+    let phase = sum.phase;
     let count = phase.count;
+    replace_in_wires(ws, fs, z, p);
     take_out_unmerged(sets, count, y);
     let constant = replace_unmerged(sets, coeffs, phase, z, p);
-    Phase {
-        constant,
-        count: canonical(sets, coeffs, count),
+    Sum {
+        live: without(without(sum.live, y), z),
+        phase: Phase {
+            constant,
+            count: canonical(sets, coeffs, count),
+        },
     }
 }
 

@@ -11,5 +11,9 @@ pub mod Compacting
 pub mod WireLaws
 pub mod Tallying
 pub mod Running
+pub mod Members
+pub mod Choosing
+pub mod Windows
+pub mod Changing
 pub mod Acceptance
 pub mod Anchors

@@ -81,14 +81,12 @@ module _ {A : Type 0} where
       {old new : List A} (f : A → A) (n : ℕ) → Front n (map f (take n old)) old new → length old ≡ n → new ≡ map f old
   front-full {old} {new} f n p e = rw (sym (take-all n new (omega arith)), p .front, take-all n old (omega arith))
 
--- there are as many wires as places asked for
-pub length-wires :
-    (n : ℕ) (ss : List ℕ) (bs : List Bool) → n ≤ length ss → n ≤ length bs → length (zipWires (take n ss) (take n bs)) ≡ n
+-- there are as many wires as sets
+pub length-wires : (ss : List ℕ) (bs : List Bool) → length bs ≡ length ss → length (zipWires ss bs) ≡ length ss
 unfolding zipWires
-length-wires zero ss bs l k = refl
-length-wires (suc n) [] bs l k = absurd (omega arith)
-length-wires (suc n) (s ∷ ss) [] l k = absurd (omega arith)
-length-wires (suc n) (s ∷ ss) (b ∷ bs) l k = ap suc (length-wires n ss bs (omega arith) (omega arith))
+length-wires [] bs e = refl
+length-wires (s ∷ ss) [] e = absurd (omega arith)
+length-wires (s ∷ ss) (b ∷ bs) e = ap suc (length-wires ss bs (omega arith))
 
 -- two lists after a pass over their first i places that changed each term by g
 pub record Passed (g : Term → Term) (i : ℕ) (ss cs ss′ cs′ : List ℕ) : Type 0 where

@@ -7,7 +7,7 @@ use native.Mathlib.Omega.{arith}
 use mathlib.Core.Bool.{Bool, true, false, cond, false≢true}
 use mathlib.Core.List.{List, [], _∷_, _++_, append-nil, map-append, reverse-append}
 use lib.ListN.{length, getD, set, take, drop, length-append, length-take, length-map}
-use lib.Seq.{take-add, take-append-seam}
+use lib.Seq.{take-add}
 use lib.Dec.{leb, ltb}
 use borrow.Author.Tests.{leb-true, leb-false, lt-leb, ltb-true, ltb-false}
 use Rattle.record_format.specs.Gate.{Gate, OneQubit, TwoQubit, one, two, X, Y, Z, S, S†, T, T†, H, CX, CZ, SWAP, Within, AllWithin, oneQubitKinds, twoQubitKinds, raw, gateOf, inverseNumber, inverseGate, inverseKind, inverseList}
@@ -21,13 +21,12 @@ use Rattle.phase_sum_meaning.specs.Parity.{Parity, of, _⊕_, complement}
 use Rattle.phase_sum_meaning.specs.Phase.{Term, Phase as Polynomial, minus, addConstant, addTerm, addPhase}
 use Rattle.phase_sum_meaning.specs.Building.{PathSum, initial, wire, setWire, withPhase, hadamard, gate, build}
 use Rattle.phase_sum_meaning.specs.Room.{roomFor, room}
-use Rattle.phase_sum_terms.specs.Workspace.{held, setsOf, coeffsOf, over, Stored, merged, parityOf, zipWires, Lent, slices, wiresIn, sumOf}
-use Rattle.phase_sum_terms.specs.Unmerged.{gatesIn, phaseTerm, productTerms, gateTerms, appendGate, appendGates, sumIn, Fits, Leaves, movesOnly, Moves, appended, Builds, Buildable, Shows}
+use Rattle.phase_sum_terms.specs.Workspace.{held, setsOf, coeffsOf, over, Stored, merged, parityOf, zipWires, Lent, slices, wiresIn, members}
+use Rattle.phase_sum_terms.specs.Unmerged.{gatesIn, phaseTerm, productTerms, gateTerms, appendGate, appendGates, sumIn, Fits, Leaves, movesOnly, Moves, placesTaken, Builds, Buildable}
 use Rattle.phase_sum_terms.specs.Inner.{phaseConstant, productConstant, appendPhase, onH}
 use Rattle.phase_sum_terms.specs.declared.Phase.{Phase}
 use Rattle.phase_sum_terms.specs.declared.Wire.{Wire}
 use Rattle.phase_sum_terms.specs.declared.Run.{Run}
-use Rattle.phase_sum_terms.specs.declared.Sum.{Sum}
 use Rattle.phase_sum_terms.proofs.Storing.{length-held, over-grown, stored-same, stored-held, stored-grown, stored-again}
 use Rattle.phase_sum_terms.proofs.Merging.{merged-build, merged-gates, mergedSum}
 use Rattle.phase_sum_meaning.proofs.PhaseLaws.{length-rebuild}
@@ -628,57 +627,33 @@ stored-fresh {ts} {r} {ss} {cs} e =
     same xs old l = over-grown 0 xs old (omega arith) ∙ sym (over-grown (length ts) xs old l)
 
 -- all gates run on the sum of no gates, and the terms merged, make the built sum
-pub built-leaves :
-    (gs : List Gate) {s : Run} {k : ℕ} {l l₁ : Lent} {ss cs : List ℕ} →
+pub built :
+    (gs : List Gate) {s : Run} {k live : ℕ} {l l₁ : Lent} {ss cs : List ℕ} →
     ToRun (appendGates (length (l .wires)) gs (initial 0 (length (l .wires)))) [] 0 s l l₁ →
     Stored (s .phase .count) (merged (held (s .phase .count) (l₁ .sets) (l₁ .coeffs))) k (l₁ .sets) (l₁ .coeffs) ss cs →
-    Leaves (build 0 (length (l .wires)) gs) (appended (length (l .wires)) gs)
-    (record { next = s .next; phase = record { constant = s .phase .constant; count = k } }) l
+    members live ≡ from (length (l .wires)) (s .next - length (l .wires)) →
+    Builds gs (record { live = live; phase = record { constant = s .phase .constant; count = k } }) l
     (slices (l₁ .wires) (l₁ .flips) ss cs)
 unfolding withPhase
-built-leaves gs {s} {l = l} run stored =
+built gs {s} {l = l} run stored left =
     let n = length (l .wires) in
     let u = appendGates n gs (initial 0 n) in
     let leaves = all-run run in
     let fewer = length-rebuild of 0 (u .phase .terms) in
     let again = rw (stored-held (leaves .terms)) at stored in
+    let terms = stored-again (stored-fresh (leaves .terms)) again (omega arith) fewer in
+    let live-from = live-appended n 0 gs (initial 0 n) (unfold initial from in refl) in
+    let many : s .next - n ≡ 0 + hGates gs =
+    omega (arith, leaves .next, ap length live-from, from-length n (0 + hGates gs))
+    in
+    let all : from n (s .next - n) ≡ u .live = rw many (sym live-from) in
     rw (← merged-build 0 n gs)
     (record {
-      next = leaves .next;
-      constant = leaves .constant;
-      wires = leaves .wires;
-      terms = stored-again (stored-fresh (leaves .terms)) again (omega arith) fewer;
+      sum = rw (leaves .constant, stored-held terms, leaves .wires, left, all);
+      terms = terms;
     })
 
--- what was built in the first n places of longer wires
-pub widened :
-    (gs : List Gate) (n : ℕ) (r : Run) {l : Lent} (ws ws₁ : List ℕ) (fs fs₁ : List Bool) {ss cs : List ℕ} →
-    length (l .wires) ≡ n →
-    length ws ≡ n →
-    length fs ≡ n →
-    Builds gs r l (slices ws fs ss cs) →
-    Shows (build 0 n gs) n (appended n gs)
-    (record { n = n; next = r .next; wires = record { sets = ws ++ ws₁; flips = fs ++ fs₁ }; phase = r .phase }) (l .sets)
-    (l .coeffs) ss cs
-widened gs n r ws ws₁ fs fs₁ k e f leaves =
-    record {
-      qubits = refl;
-      next = rw k at (leaves .next);
-      constant = rw k at (leaves .constant);
-      wires = rw (front n ws ws₁ e, front n fs fs₁ f) (rw k at (leaves .wires));
-      terms = rw k at (leaves .terms);
-    }
-  where
-    front : {A : Type 0} (m : ℕ) (xs ys : List A) → length xs ≡ m → take m (xs ++ ys) ≡ xs
-    front m xs ys h = rw (← h) (take-append-seam xs ys)
-
--- a sum and its workspaces stand for the path sum that they show, where its live variables are the next ones
-pub shows-sum :
-    {u : PathSum} {n m : ℕ} {r : Sum} {ss cs ss′ cs′ : List ℕ} →
-    Shows u n m r ss cs ss′ cs′ →
-    (k : ℕ) →
-    u .live ≡ from n k →
-    sumOf r ss′ cs′ ≡ u
-shows-sum {u} {n} {m} {r} {ss} {cs} {ss′} {cs′} shows k live =
-    let many : r .next - r .n ≡ k = omega (arith, shows .next, shows .qubits, ap length live, from-length n k) in
-    rw (many, shows .qubits, shows .constant, stored-held (shows .terms), shows .wires, ← live)
+-- how many variables are in use then
+pub all-variables : {u : PathSum} {m : ℕ} {s : Run} {l l₁ : Lent} → ToRun u [] m s l l₁ → (length (l₁ .wires) ≤ s .next) × (s .next ≤ 64)
+unfolding tally
+all-variables run = (run .fits .started, omega (arith, run .fits .variables))

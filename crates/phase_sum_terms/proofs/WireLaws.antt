@@ -9,27 +9,18 @@ use native.Mathlib.Omega.{arith}
 use mathlib.Core.Bool.{Bool, false, not, xor}
 use mathlib.Core.List.{List, [], _∷_, _++_, map, append-assoc, map-append}
 use lib.ListN.{length, getD, set, take, replicate, length-append, replicate-append-replicate}
-use lib.Seq.{length-take-le, take-all, take-suc-set, getD-take}
+use lib.Seq.{take-all, take-suc-set}
 use Rattle.amplitude.proofs.BitLaws.{bit-zero}
 use Rattle.amplitude.proofs.XorLaws.{xor-trueˡ}
 use Rattle.phase_sum_meaning.specs.Sets.{_△_, single, from}
 use Rattle.phase_sum_meaning.specs.Parity.{Parity, of, _⊕_, complement}
 use Rattle.phase_sum_meaning.specs.Phase.{Term}
 use Rattle.phase_sum_meaning.specs.Building.{input, initial}
-use Rattle.phase_sum_terms.specs.Workspace.{held, zipWires, wiresOf, parityOf, Stored}
+use Rattle.phase_sum_terms.specs.Workspace.{held, zipWires, Stored}
 use Rattle.phase_sum_terms.specs.Unmerged.{phaseTerm, productTerms}
 use Rattle.phase_sum_terms.specs.Inner.{phaseConstant, productConstant}
-use Rattle.phase_sum_terms.specs.declared.Wire.{Wire}
-use Rattle.phase_sum_terms.specs.declared.Wires.{Wires}
 use Rattle.phase_sum_meaning.proofs.VariableLaws.{from-snoc}
 use Rattle.phase_sum_terms.proofs.Storing.{stored-held, stored-grown, length-held}
-
--- the first n elements of a list with one set anew
-take-set : {A : Type 0} (n : ℕ) (l : List A) (q : ℕ) (a : A) → take n (set l q a) ≡ set (take n l) q a
-take-set zero l q a = refl
-take-set (suc n) [] q a = refl
-take-set (suc n) (x ∷ xs) zero a = refl
-take-set (suc n) (x ∷ xs) (suc q) a = rw (take-set n xs q a)
 
 -- parities by their sets and constants, with one of each set anew
 pub zip-set :
@@ -80,24 +71,6 @@ pub zip-swap :
 zip-swap ss bs a b la ka lb kb =
     rw (← zip-at ss bs a la ka, ← zip-at ss bs b lb kb, ← zip-set ss bs a (getD ss b 0) (getD bs b false))
     (zip-set (set ss a (getD ss b 0)) (set bs a (getD bs b false)) b _ _)
-
--- the wires with wire q set anew
-pub wires-set :
-    (n : ℕ) (ws : Wires) (q : ℕ) (w : Wire) →
-    wiresOf n (record { sets = set (ws .sets) q (w .set); flips = set (ws .flips) q (w .flipped) })
-    ≡ set (wiresOf n ws) q (parityOf w)
-wires-set n ws q w =
-    rw (take-set n (ws .sets) q (w .set), take-set n (ws .flips) q (w .flipped))
-    (zip-set (take n (ws .sets)) (take n (ws .flips)) q (w .set) (w .flipped))
-
--- wire q of the first n
-pub wires-at :
-    (n : ℕ) (ws : Wires) (q : ℕ) → q < n → n ≤ length (ws .sets) → n ≤ length (ws .flips) →
-    _≡_ {A = Parity} (record { vars = getD (ws .sets) q 0; flipped = getD (ws .flips) q false }) (getD (wiresOf n ws) q (of 0))
-wires-at n ws q l h k =
-    rw (← getD-take n (ws .sets) q 0 l, ← getD-take n (ws .flips) q false l)
-    (zip-at (take n (ws .sets)) (take n (ws .flips)) q
-    (rw (length-take-le n (ws .sets) h) l) (rw (length-take-le n (ws .flips) k) l))
 
 -- the sets of the inputs from a on, none complemented, are those inputs' parities
 zip-inputs : (a n : ℕ) → zipWires (map single (from a n)) (replicate n false) ≡ map (input 0) (from a n)

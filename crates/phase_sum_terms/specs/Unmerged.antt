@@ -15,7 +15,7 @@ use Rattle.phase_sum_meaning.specs.Parity.{Parity, of, _⊕_}
 use Rattle.phase_sum_meaning.specs.Phase.{Term, term, minus}
 use Rattle.phase_sum_meaning.specs.Building.{PathSum, initial, wire, gate, build}
 use Rattle.phase_sum_meaning.specs.Room.{roomFor, room, mostVariables}
-use Rattle.phase_sum_terms.specs.Workspace.{Stored, Lent, phaseOf, wiresOf, wiresIn}
+use Rattle.phase_sum_terms.specs.Workspace.{Stored, Lent, phaseOf, wiresIn, Became}
 use Rattle.phase_sum_terms.specs.declared.Run.{Run}
 use Rattle.phase_sum_terms.specs.declared.Sum.{Sum}
 
@@ -106,13 +106,13 @@ movesOnly g = eqb (roomFor g) 0
 abbrev pub Moves : Gate → List Parity → List Parity → Type 0
 Moves g ws ws′ = (n : ℕ) (s : PathSum) → s .wires ≡ ws → appendGate n g s ≡ record { phase = s .phase; wires = ws′; live = s .live }
 
--- how many terms gates add, unmerged
-abbrev pub appended : ℕ → List Gate → ℕ
-appended n gs = length (appendGates n gs (initial 0 n) .phase .terms)
+-- how many places the terms of gates take, unmerged
+abbrev pub placesTaken : ℕ → List Gate → ℕ
+placesTaken n gs = length (appendGates n gs (initial 0 n) .phase .terms)
 
 -- what a call leaves that built the sum of the gates gs
-abbrev pub Builds : List Gate → Run → Lent → Lent → Type 0
-Builds gs r l l′ = Leaves (build 0 (length (l .wires)) gs) (appended (length (l .wires)) gs) r l l′
+abbrev pub Builds : List Gate → Sum → Lent → Lent → Type 0
+Builds gs r l l′ = Became (build 0 (length (l .wires)) gs) (placesTaken (length (l .wires)) gs) r l l′
 
 -- what building asks for: the bytes of two lists on at most 16 qubits, with at most 64 variables together and room for the terms
 pub record Buildable (n : ℕ) (first second ss cs : List ℕ) : Type 0 where
@@ -124,11 +124,3 @@ pub record Buildable (n : ℕ) (first second ss cs : List ℕ) : Type 0 where
   pub variables : n + (hGates (gatesIn first) + hGates (gatesIn second)) ≤ mostVariables
   pub sets : room (gatesIn first) (gatesIn second) ≤ length ss
   pub coeffs : room (gatesIn first) (gatesIn second) ≤ length cs
-
--- a sum and the workspaces that it leaves stand for the path sum u on n qubits, m places having been in use
-pub record Shows (u : PathSum) (n m : ℕ) (r : Sum) (ss cs ss′ cs′ : List ℕ) : Type 0 where
-  pub qubits : r .n ≡ n
-  pub next : r .next ≡ n + length (u .live)
-  pub constant : r .phase .constant ≡ u .phase .constant
-  pub wires : wiresOf n (r .wires) ≡ u .wires
-  pub terms : Stored m (u .phase .terms) (r .phase .count) ss cs ss′ cs′

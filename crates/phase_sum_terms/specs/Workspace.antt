@@ -2,12 +2,14 @@
 -- 01, "Building the sum" and "Report, pick, builder".
 -- Assumes nothing.
 use mathlib.Core.Path.{_≡_}
-use Prim.Native.Nat.{ℕ, _-_}
-use mathlib.Core.Bool.{Bool}
+use Prim.Native.Nat.{ℕ, _+_, _-_, _≤_}
+use mathlib.Core.Bool.{Bool, cond}
+use mathlib.Core.Option.{Option, none, some}
 use mathlib.Core.List.{List, [], _∷_, _++_, map}
 use lib.ListN.{length, take, drop, replicate}
 use denote.Ref.{RefT, now}
 use denote.Triple.Both.{Both}
+use Rattle.amplitude.specs.Bits.{bit}
 use Rattle.phase_sum_meaning.specs.Sets.{from}
 use Rattle.phase_sum_meaning.specs.Parity.{Parity, of}
 use Rattle.phase_sum_meaning.specs.Phase as phase
@@ -15,8 +17,9 @@ use Rattle.phase_sum_meaning.specs.Phase.{Term, term, rebuild}
 use Rattle.phase_sum_meaning.specs.Building.{PathSum}
 use Rattle.phase_sum_terms.specs.declared.Phase.{Phase}
 use Rattle.phase_sum_terms.specs.declared.Wire.{Wire}
-use Rattle.phase_sum_terms.specs.declared.Wires.{Wires}
 use Rattle.phase_sum_terms.specs.declared.Sum.{Sum}
+use Rattle.phase_sum_terms.specs.declared.Found.{Found}
+use Rattle.phase_sum_terms.specs.declared.Found.the-variants.{Variable, Nothing}
 
 -- terms by their sets and coefficients
 unfoldable pub zipTerms : List ℕ → List ℕ → List Term
@@ -78,19 +81,6 @@ zipWires [] bs = []
 zipWires (s ∷ ss) [] = []
 zipWires (s ∷ ss) (b ∷ bs) = record { vars = s; flipped = b } ∷ zipWires ss bs
 
--- the parities of the first n wires
-abbrev pub wiresOf : ℕ → Wires → List Parity
-wiresOf n w = zipWires (take n (w .sets)) (take n (w .flips))
-
--- the path sum that a sum under construction stands for, its terms in the order in which they stand in the workspaces
-abbrev pub sumOf : Sum → List ℕ → List ℕ → PathSum
-sumOf s sets coeffs =
-    record {
-      phase = record { constant = s .phase .constant; terms = held (s .phase .count) sets coeffs };
-      wires = wiresOf (s .n) (s .wires);
-      live = from (s .n) (s .next - s .n);
-    }
-
 -- what the four slices that a sum is lent hold: its wires' sets and constant bits, one place a qubit, and its terms' sets and coefficients
 pub record Lent : Type 0 where
   pub wires : List ℕ
@@ -121,3 +111,50 @@ after ws fs ss cs = lent (ws .exit) (fs .exit) (ss .exit) (cs .exit)
 -- the parities of the wires
 abbrev pub wiresIn : Lent → List Parity
 wiresIn l = zipWires (l .wires) (l .flips)
+
+-- the numbers of a list that are in a set
+unfoldable pub among : ℕ → List ℕ → List ℕ
+among s [] = []
+among s (v ∷ vs) = cond (bit v s) (v ∷ among s vs) (among s vs)
+
+-- the members of a set of at most 64 variables, in rising order
+abbrev pub members : ℕ → List ℕ
+members s = among s (from 0 64)
+
+-- what a search for a variable found
+abbrev pub foundOf : Found → Option ℕ
+foundOf (Variable v) = some v
+foundOf Nothing = none
+
+-- the path sum that a sum and its slices stand for
+abbrev pub sumOf : Sum → Lent → PathSum
+sumOf s l = record { phase = phaseOf (s .phase) (l .sets) (l .coeffs); wires = wiresIn l; live = members (s .live) }
+
+-- what changing a sum asks of its slices: a constant bit for each wire, and as many places as there are terms
+pub record Stands (s : Sum) (l : Lent) : Type 0 where
+  pub flips : length (l .flips) ≡ length (l .wires)
+  pub sets : s .phase .count ≤ length (l .sets)
+  pub coeffs : s .phase .count ≤ length (l .coeffs)
+
+-- what a call leaves that was lent l, of which m places of the workspaces were in use: the path sum t
+pub record Became (t : PathSum) (m : ℕ) (r : Sum) (l l′ : Lent) : Type 0 where
+  pub sum : sumOf r l′ ≡ t
+  pub terms : Stored m (t .phase .terms) (r .phase .count) (l .sets) (l .coeffs) (l′ .sets) (l′ .coeffs)
+
+-- what a call leaves that changed a sum by f
+abbrev pub Changed : (PathSum → PathSum) → ℕ → Sum → Sum → Lent → Lent → Type 0
+Changed f m s r l l′ = Became (f (sumOf s l)) m r l l′
+
+-- what a call leaves that changed a sum by f and was not lent its wires
+abbrev pub TermsChanged : (PathSum → PathSum) → ℕ → Sum → Sum → Passed (List ℕ) → Passed (List ℕ) → Type 0
+TermsChanged f m s r ss cs =
+    (ws : List ℕ) (fs : List Bool) →
+    Changed f m s r (slices ws fs (now (ss .entry)) (now (cs .entry))) (slices ws fs (now (ss .exit)) (now (cs .exit)))
+
+-- what reducing a sum asks of its slices: at most 16 wires, a constant bit for each, and room for the terms and one more for each variable
+-- left
+pub record Sized (s : Sum) (l : Lent) : Type 0 where
+  pub few : length (l .wires) ≤ 16
+  pub flips : length (l .flips) ≡ length (l .wires)
+  pub sets : s .phase .count + length (members (s .live)) ≤ length (l .sets)
+  pub coeffs : s .phase .count + length (members (s .live)) ≤ length (l .coeffs)

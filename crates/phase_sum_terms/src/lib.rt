@@ -8,17 +8,12 @@
 pub mod counting;
 pub mod sets;
 pub mod terms;
+pub mod wires;
 
 // A wire of document 01: the parity of a set of variables, complemented where flipped.
 pub struct Wire {
     pub set: u64,
     pub flipped: bool,
-}
-
-// The wires of at most 16 qubits.
-pub struct Wires {
-    pub sets: [u64; 16],
-    pub flips: [bool; 16],
 }
 
 // A phase whose terms stand in the first places of two lent workspaces.
@@ -27,19 +22,23 @@ pub struct Phase {
     pub count: usize,
 }
 
-// The path sum of the gates that have run so far.
+// A path sum. Its wires stand in two lent slices, their sets in one and their constant bits in the other, one place a qubit; its terms stand
+// in the workspaces.
 pub struct Sum {
-    pub n: usize,
-    // the next path variable's number
-    pub next: u32,
-    pub wires: Wires,
+    // the path variables that are left
+    pub live: u64,
     pub phase: Phase,
 }
 
-// A sum under construction. Its wires stand in two lent slices, their sets in one and their constant bits in the other, one place a qubit;
-// its terms stand in the workspaces.
+// A path sum under construction, in slices like these: all path variables from n up to the next one are left.
 pub struct Run {
     // the next path variable's number
     pub next: u32,
     pub phase: Phase,
+}
+
+// What a search for a variable finds.
+pub enum Found {
+    Variable(u32),
+    Nothing,
 }

@@ -1,9 +1,12 @@
 // Sets of at most 64 variables as words.
 ghost use mathlib.Core.Path.{_≡_};
 ghost use Prim.Native.Nat.{ℕ, _<_};
-ghost use mathlib.Core.Bool.{_||_};
+ghost use mathlib.Core.Bool.{not, _||_};
 ghost use Rattle.amplitude.specs.Bits.{bit};
-ghost use Rattle.phase_sum_meaning.specs.Sets.{_△_, single, parity};
+ghost use Rattle.phase_sum_meaning.specs.Sets.{_△_, single, parity, firstIn, firstSuch, from};
+ghost use Rattle.phase_sum_meaning.specs.Stepping.{outOf};
+ghost use Rattle.phase_sum_terms.specs.Workspace.{members, foundOf};
+use crate::Found;
 
 // The set of one variable.
 pub fn single(v: u32) -> u64
@@ -313,4 +316,39 @@ pub fn union(a: u64, b: u64) -> u64
     ensures { λ r. ⌜ ((v : ℕ) → bit v r ≡ bit v a || bit v b) ⌝ }
 {
     a | b
+}
+
+// A set without a variable.
+pub fn without(set: u64, v: u32) -> u64
+    requires { ⌜ v < 64 ⌝ }
+    ensures { λ r. ⌜ r ≡ outOf v set ⌝ }
+{
+    if holds(set, v) {
+        return exclusive_or(set, single(v));
+    }
+    set
+}
+
+// The lowest variable of a set.
+pub fn lowest(set: u64) -> Found
+    ensures { λ r. ⌜ foundOf r ≡ firstSuch (λ v. bit v set) (from 0 64) ⌝ }
+{
+    if set == 0 {
+        return Found::Nothing;
+    }
+    Found::Variable(u64::trailing_zeros(set))
+}
+
+// The lowest variable left that a set holds.
+pub fn lowest_in(live: u64, set: u64) -> Found
+    ensures { λ r. ⌜ foundOf r ≡ firstIn (members live) set ⌝ }
+{
+    lowest(live & set)
+}
+
+// The lowest variable left that a set does not hold.
+pub fn lowest_out(live: u64, set: u64) -> Found
+    ensures { λ r. ⌜ foundOf r ≡ firstSuch (λ v. not (bit v set)) (members live) ⌝ }
+{
+    lowest(live ^ (live & set))
 }

@@ -7,12 +7,11 @@ mod steps;
 
 use libc::STDIN_FILENO;
 use phase_sum_terms::Phase;
-use phase_sum_terms::Wires;
 
 // One row after another, until the input ends.
 fn run(input: &[u8], sets: &mut [u64], coeffs: &mut [u8]) {
     let mut state = steps::State {
-        wires: Wires {
+        wires: steps::Wires {
             sets: [0; 16],
             flips: [false; 16],
         },

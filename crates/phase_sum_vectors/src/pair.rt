@@ -10,7 +10,9 @@ ghost use Rattle.phase_sum_meaning.specs.Room.{mostVariables};
 ghost use Rattle.phase_sum_terms.specs.Unmerged.{gatesIn};
 use crate::print;
 use crate::row;
+use crate::steps::QUBITS;
 use crate::steps::State;
+use crate::steps::Wires;
 use phase_sum_terms::Sum;
 use phase_sum_terms::counting::h_gates;
 use record_format::Checked;
@@ -49,14 +51,14 @@ fn few_variables(n: usize, first: &[u8], second: &[u8]) -> bool
     n + (h + k) <= 64
 }
 
-// A sum: the next variable, the constant and the terms on a line, and the wires.
-fn show(sum: Sum, sets: &[u64], coeffs: &[u8]) {
+// A sum on n qubits: the next variable, the constant and the terms on a line, and the wires.
+fn show(n: usize, sum: Sum, wires: Wires, sets: &[u64], coeffs: &[u8]) {
     let phase = sum.phase;
-    print::number(sum.next as u64);
+    print::number(std::num::wrapping_add_u64(n as u64, u64::count_ones(sum.live) as u64));
     print::number(print::wide(phase.constant));
     print::terms(sets, coeffs, phase.count);
     print::end();
-    print::wires(sum.wires);
+    print::wires(wires);
 }
 
 // The sum of two accepted records on n qubits.
@@ -70,6 +72,9 @@ fn sum_of(
 ) -> State
     requires { ⌜ ((gs : List Gate) × (read (now first) ≡ accepted n gs)) × ((gs : List Gate) × (read (now second) ≡ accepted n gs)) ⌝ }
 {
+    if n > QUBITS {
+        return state;
+    }
     if sets.len() < PLACES {
         return state;
     }
@@ -81,9 +86,14 @@ fn sum_of(
     if !few_variables(n, one, two) {
         return state;
     }
-    let sum = phase_sum_building::build(n, one, two, sets, coeffs);
-    show(sum, sets, coeffs);
-    let wires = sum.wires;
+    let mut ws = [0u64; QUBITS];
+    let mut fs = [false; QUBITS];
+    let sum = phase_sum_building::build(one, two, &mut ws[..n], &mut fs[..n], sets, coeffs);
+    let wires = Wires {
+        sets: ws,
+        flips: fs,
+    };
+    show(n, sum, wires, sets, coeffs);
     let phase = sum.phase;
     State { wires, phase }
 }

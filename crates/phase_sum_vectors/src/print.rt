@@ -1,6 +1,6 @@
 // Numbers in decimal, a space behind each, and line ends.
+use crate::steps::Wires;
 use libc::STDOUT_FILENO;
-use phase_sum_terms::Wires;
 
 // A number and a space.
 pub(crate) fn number(x: u64) {

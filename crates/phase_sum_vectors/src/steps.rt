@@ -1,13 +1,23 @@
 // What each row does: one function of the phase-sum layer, on the terms and wires that earlier rows left.
+ghost use Prim.Native.Nat.{_<_, _≤_};
+ghost use lib.ListN.{length};
 use crate::pair;
 use crate::print;
 use crate::row;
 use crate::row::Row;
 use phase_sum_terms::Phase;
+use phase_sum_terms::Sum;
 use phase_sum_terms::Wire;
-use phase_sum_terms::Wires;
 use phase_sum_terms::sets;
 use phase_sum_terms::terms;
+
+// The qubits that the wires have places for.
+pub(crate) const QUBITS: usize = 16;
+
+pub struct Wires {
+    pub sets: [u64; 16],
+    pub flips: [bool; 16],
+}
 
 pub struct State {
     pub wires: Wires,
@@ -60,17 +70,7 @@ fn change(phase: Phase, r: Row, body: &[u8], sets: &mut [u64], coeffs: &mut [u8]
             constant: phase.constant,
             count: phase_sum_merging::canonical(sets, coeffs, count),
         },
-        row::REPLACE => phase_sum_stepping::replace_in_terms(
-            sets,
-            coeffs,
-            phase,
-            v,
-            Wire {
-                set: r.set,
-                flipped: r.flipped,
-            },
-        ),
-        row::TAKE_OUT => phase_sum_stepping::take_out(sets, coeffs, phase, v),
+        row::TAKE_OUT => taken_out(phase, v, sets, coeffs),
         row::CLEAR => {
             terms::clear(sets, coeffs, count);
             Phase {
@@ -80,6 +80,60 @@ fn change(phase: Phase, r: Row, body: &[u8], sets: &mut [u64], coeffs: &mut [u8]
         }
         row::APPEND => append(phase, r, sets, coeffs),
         _ => phase,
+    }
+}
+
+// A variable taken out.
+fn taken_out(phase: Phase, v: u32, sets: &mut [u64], coeffs: &mut [u8]) -> Phase
+    requires { ⌜ (v < 64) × (phase .count ≤ length (now sets)) × (phase .count ≤ length (now coeffs)) ⌝ }
+{
+    let sum = phase_sum_stepping::take_out(Sum { live: 0, phase }, v, sets, coeffs);
+    let out = sum.phase;
+    out
+}
+
+// A variable replaced, where the wires and workspaces have the places.
+fn replaced_in(
+    phase: Phase,
+    r: Row,
+    ws: &mut [u64],
+    fs: &mut [bool],
+    sets: &mut [u64],
+    coeffs: &mut [u8],
+) -> Phase {
+    let count = phase.count;
+    if fs.len() != ws.len() {
+        return phase;
+    }
+    if count > sets.len() {
+        return phase;
+    }
+    if count > coeffs.len() {
+        return phase;
+    }
+    let z = (r.variable % 64) as u32;
+    let p = Wire {
+        set: r.set,
+        flipped: r.flipped,
+    };
+    let sum = phase_sum_stepping::replace(Sum { live: 0, phase }, z, p, ws, fs, sets, coeffs);
+    let new = sum.phase;
+    new
+}
+
+// A row that replaces a variable, in the terms and the wires.
+fn replaced(state: State, r: Row, sets: &mut [u64], coeffs: &mut [u8]) -> State {
+    let phase = state.phase;
+    let wires = state.wires;
+    let mut ws = wires.sets;
+    let mut fs = wires.flips;
+    let new = replaced_in(phase, r, &mut ws, &mut fs, sets, coeffs);
+    State {
+        wires: Wires {
+            sets: ws,
+            flips: fs,
+        },
+        phase: new,
     }
 }
 
@@ -131,34 +185,31 @@ pub(crate) fn step(
     coeffs: &mut [u8],
 ) -> State {
     let function = r.function;
-    let old = state.phase;
-    let before = state.wires;
     if function == row::BUILD {
         return pair::build(state, body, sets, coeffs);
     }
-    let phase = change(old, r, body, sets, coeffs);
+    let new = changed(state, r, body, sets, coeffs);
     if r.quiet {
-        return State {
-            wires: before,
-            phase,
-        };
+        return new;
     }
+    let phase = new.phase;
     ask(phase, r, sets, coeffs);
     print::number(print::wide(phase.constant));
     print::terms(sets, coeffs, phase.count);
     print::end();
-    let mut wires = before;
-    if function == row::REPLACE {
-        wires = phase_sum_stepping::replace_in_wires(
-            before,
-            16,
-            (r.variable % 64) as u32,
-            Wire {
-                set: r.set,
-                flipped: r.flipped,
-            },
-        );
+    print::wires(new.wires);
+    new
+}
+
+// The terms and wires after a row.
+fn changed(state: State, r: Row, body: &[u8], sets: &mut [u64], coeffs: &mut [u8]) -> State {
+    if r.function == row::REPLACE {
+        return replaced(state, r, sets, coeffs);
     }
-    print::wires(wires);
-    State { wires, phase }
+    let old = state.phase;
+    let wires = state.wires;
+    State {
+        wires,
+        phase: change(old, r, body, sets, coeffs),
+    }
 }

@@ -1,66 +1,135 @@
--- `phase_sum_building::build` meets its contract.
+-- `phase_sum_building::build` meets its contract: the first list runs on the sum of no gates, then the second inverted, and the terms are merged.
 -- Assumes nothing.
-use mathlib.Core.Path.{sym, _∙_}
-use Prim.Native.Nat.{ℕ}
-use mathlib.Core.Bool.{false}
-use lib.ListN.{replicate}
-use lib.Seq.{length-take-le}
+use mathlib.Core.Path.{_≡_, refl, _∙_}
+use native.Mathlib.Omega.{arith}
 use denote.Ref.{now}
-use Rattle.phase_sum_terms.specs.Unmerged.{joinedIn}
-use Rattle.phase_sum_terms.proofs.Running.{widened}
+use Rattle.record_format.specs.Gate.{inverseList}
+use Rattle.phase_sum_terms.specs.Unmerged.{gatesIn, joinedIn}
+use Rattle.phase_sum_terms.proofs.Running.{start-fits, half-run, last-run, all-variables, built}
 use borrow.Author.Needs.{needs}
 use Rattle.phase_sum_building.proofs.build.Statement.{statement}
 use Rattle.phase_sum_building.proofs.build.Tie as tie
 
-array-borrow-prefix-ws : tie.Need-array-borrow-prefix-ws
-array-borrow-prefix-ws c = search needs
+start-requires : tie.Need-start-requires
+start-requires c κs = search needs
 
-slice-aggregate-build-in : tie.Need-slice-aggregate-build-in
-slice-aggregate-build-in c = sym (length-take-le (c .before .before .before .before .before .args .n) (replicate 16 0) (c .before .before .before .before .before .pre .few))
+forwards-requires : tie.Need-forwards-requires
+forwards-requires c κs =
+    let a = c .before .before .before .before .before .before .before .before .before .before .before .before .before .before .before .before .before .args in
+    let pre = c .before .before .before .before .before .before .before .before .before .before .before .before .before .before .before .before .before .pre in
+    let b = c .before .before .before .before .before .before .before .before .start in
+    let starts = b .ensures (now (a .sets)) (now (a .coeffs)) in (
+      pre .1 .threes,
+      start-fits (now (a .first)) (now (a .second)) (pre .1) (b .result) starts
+          (record { wires = b .kept .0; flips = b .kept .1 .0; sets = refl; coeffs = refl }) (pre .0),
+    )
 
-array-borrow-prefix-fs : tie.Need-array-borrow-prefix-fs
-array-borrow-prefix-fs c = search needs
+backwards-requires : tie.Need-backwards-requires
+backwards-requires c κs =
+    let a = c .before .before .before .before .before .before .before .before .before .before .before .before .before .before .before .before .before .before .before .before .before .before .before .before .before .before .before .before .before .before .args in
+    let pre = c .before .before .before .before .before .before .before .before .before .before .before .before .before .before .before .before .before .before .before .before .before .before .before .before .before .before .before .before .before .before .pre in
+    let b = c .before .before .before .before .before .before .before .before .before .before .before .before .before .before .before .before .before .before .before .before .before .start in
+    let starts = b .ensures (now (a .sets)) (now (a .coeffs)) in
+    let f = c .before .before .before .before .before .before .before .before .before .before .before .before .forwards in
+    let kept = f .kept .1 .1 in
+    let half =
+    half-run (now (a .first)) (now (a .second)) (pre .1) (b .result) starts
+    (record { wires = b .kept .0; flips = b .kept .1 .0; sets = refl; coeffs = refl }) (pre .0) (f .ensures)
+    (record { wires = kept .0; flips = kept .1 .0; sets = kept .1 .1 .0; coeffs = kept .1 .1 .1 .0 })
+    in
+    (pre .1 .threes′, half .fits)
 
-slice-aggregate-build-in-2 : tie.Need-slice-aggregate-build-in-2
-slice-aggregate-build-in-2 c = sym (length-take-le (c .before .before .before .before .before .before .args .n) (replicate 16 false) (c .before .before .before .before .before .before .pre .few))
+cast-path-variables : tie.Need-cast-path-variables
+cast-path-variables c = omega (arith, c .before .before .before .before .before .before .before .before .before .before .before .before .before .before .before .before .before .before .before .before .before .before .before .before .before .before .before .before .before .before .before .before .before .before .before .before .before .before .before .before .pre .1 .few)
 
-build-in-requires : tie.Need-build-in-requires
-build-in-requires c κs =
-    let n = c .before .before .before .before .before .before .before .before .args .n in
-    let pre = c .before .before .before .before .before .before .before .before .pre in
-    let e = length-take-le {A = ℕ} n (replicate 16 0) (pre .few) in
-    let f = length-take-le n (replicate 16 false) (pre .few) in
-    (f ∙ sym e, rw e pre)
+path-variables-requires : tie.Need-path-variables-requires
+path-variables-requires c κs =
+    let a = c .before .before .before .before .before .before .before .before .before .before .before .before .before .before .before .before .before .before .before .before .before .before .before .before .before .before .before .before .before .before .before .before .before .before .before .before .before .before .before .before .args in
+    let pre = c .before .before .before .before .before .before .before .before .before .before .before .before .before .before .before .before .before .before .before .before .before .before .before .before .before .before .before .before .before .before .before .before .before .before .before .before .before .before .before .before .pre in
+    let b = c .before .before .before .before .before .before .before .before .before .before .before .before .before .before .before .before .before .before .before .before .before .before .before .before .before .before .before .before .before .before .before .start in
+    let starts = b .ensures (now (a .sets)) (now (a .coeffs)) in
+    let f = c .before .before .before .before .before .before .before .before .before .before .before .before .before .before .before .before .before .before .before .before .before .before .forwards in
+    let kept = f .kept .1 .1 in
+    let half =
+    half-run (now (a .first)) (now (a .second)) (pre .1) (b .result) starts
+    (record { wires = b .kept .0; flips = b .kept .1 .0; sets = refl; coeffs = refl }) (pre .0) (f .ensures)
+    (record { wires = kept .0; flips = kept .1 .0; sets = kept .1 .1 .0; coeffs = kept .1 .1 .1 .0 })
+    in
+    let w = c .before .before .before .before .before .before .before .before .before .backwards in
+    let kept₁ = w .kept .1 .1 in
+    let whole =
+    last-run (inverseList (gatesIn (now (a .second)))) (f .result) half (w .ensures)
+    (record { wires = kept₁ .0; flips = kept₁ .1 .0; sets = kept₁ .1 .1 .0; coeffs = kept₁ .1 .1 .1 .0 })
+    in
+    let used = all-variables whole in
+    (omega (arith, used .0, whole .long .wires), used .1)
+
+canonical-requires : tie.Need-canonical-requires
+canonical-requires c κs =
+    let a = c .before .before .before .before .before .before .before .before .before .before .before .before .before .before .before .before .before .before .before .before .before .before .before .before .before .before .before .before .before .before .before .before .before .before .before .before .before .before .before .before .before .before .before .args in
+    let pre = c .before .before .before .before .before .before .before .before .before .before .before .before .before .before .before .before .before .before .before .before .before .before .before .before .before .before .before .before .before .before .before .before .before .before .before .before .before .before .before .before .before .before .before .pre in
+    let b = c .before .before .before .before .before .before .before .before .before .before .before .before .before .before .before .before .before .before .before .before .before .before .before .before .before .before .before .before .before .before .before .before .before .before .start in
+    let starts = b .ensures (now (a .sets)) (now (a .coeffs)) in
+    let f = c .before .before .before .before .before .before .before .before .before .before .before .before .before .before .before .before .before .before .before .before .before .before .before .before .before .forwards in
+    let kept = f .kept .1 .1 in
+    let half =
+    half-run (now (a .first)) (now (a .second)) (pre .1) (b .result) starts
+    (record { wires = b .kept .0; flips = b .kept .1 .0; sets = refl; coeffs = refl }) (pre .0) (f .ensures)
+    (record { wires = kept .0; flips = kept .1 .0; sets = kept .1 .1 .0; coeffs = kept .1 .1 .1 .0 })
+    in
+    let w = c .before .before .before .before .before .before .before .before .before .before .before .before .backwards in
+    let kept₁ = w .kept .1 .1 in
+    let whole =
+    last-run (inverseList (gatesIn (now (a .second)))) (f .result) half (w .ensures)
+    (record { wires = kept₁ .0; flips = kept₁ .1 .0; sets = kept₁ .1 .1 .0; coeffs = kept₁ .1 .1 .1 .0 })
+    in
+    (omega (arith, whole .fits .sets), omega (arith, whole .fits .coeffs))
 
 same-length : tie.Need-same-length
-same-length c = search needs
+same-length c = c .before .before .before .before .before .before .before .before .before .before .before .before .before .before .before .before .before .backwards .kept .1 .1 .0 ∙ c .before .before .before .before .before .before .before .before .before .before .before .before .before .before .before .before .before .before .before .before .before .before .before .before .before .before .before .before .before .before .forwards .kept .1 .1 .0 ∙ c .before .before .before .before .before .before .before .before .before .before .before .before .before .before .before .before .before .before .before .before .before .before .before .before .before .before .before .before .before .before .before .before .before .before .before .before .before .before .before .start .kept .0
 
 same-length-2 : tie.Need-same-length-2
-same-length-2 c = search needs
+same-length-2 c = c .before .before .before .before .before .before .before .before .before .before .before .before .before .before .before .before .before .backwards .kept .1 .1 .1 .0 ∙ c .before .before .before .before .before .before .before .before .before .before .before .before .before .before .before .before .before .before .before .before .before .before .before .before .before .before .before .before .before .before .forwards .kept .1 .1 .1 .0 ∙ c .before .before .before .before .before .before .before .before .before .before .before .before .before .before .before .before .before .before .before .before .before .before .before .before .before .before .before .before .before .before .before .before .before .before .before .before .before .before .before .start .kept .1 .0
+
+same-length-3 : tie.Need-same-length-3
+same-length-3 c = search needs
+
+same-length-4 : tie.Need-same-length-4
+same-length-4 c = search needs
 
 returns : tie.Need-returns
 returns c =
-    let a = c .before .before .before .before .before .before .before .before .before .before .before .before .before .before .before .before .args in
-    let n = a .n in
-    let pre = c .before .before .before .before .before .before .before .before .before .before .before .before .before .before .before .before .pre in
-    let e = length-take-le {A = ℕ} n (replicate 16 0) (pre .few) in
-    let f = length-take-le n (replicate 16 false) (pre .few) in
-    let b = c .before .before .before .before .before .before .before .build-in in
-    widened (joinedIn (now (a .first)) (now (a .second))) n (b .result) (b .last .1 .1 .0) _ (b .last .1 .1 .1 .0) _
-    e
-    (b .kept .1 .1 .0 ∙ e)
-    (b .kept .1 .1 .1 .0 ∙ f)
-    (b .ensures)
+    let a = c .before .before .before .before .before .before .before .before .before .before .before .before .before .before .before .before .before .before .before .before .before .before .before .before .before .before .before .before .before .before .before .before .before .before .before .before .before .before .before .before .before .before .before .before .before .before .before .before .args in
+    let pre = c .before .before .before .before .before .before .before .before .before .before .before .before .before .before .before .before .before .before .before .before .before .before .before .before .before .before .before .before .before .before .before .before .before .before .before .before .before .before .before .before .before .before .before .before .before .before .before .before .pre in
+    let b = c .before .before .before .before .before .before .before .before .before .before .before .before .before .before .before .before .before .before .before .before .before .before .before .before .before .before .before .before .before .before .before .before .before .before .before .before .before .before .before .start in
+    let starts = b .ensures (now (a .sets)) (now (a .coeffs)) in
+    let f = c .before .before .before .before .before .before .before .before .before .before .before .before .before .before .before .before .before .before .before .before .before .before .before .before .before .before .before .before .before .before .forwards in
+    let kept = f .kept .1 .1 in
+    let half =
+    half-run (now (a .first)) (now (a .second)) (pre .1) (b .result) starts
+    (record { wires = b .kept .0; flips = b .kept .1 .0; sets = refl; coeffs = refl }) (pre .0) (f .ensures)
+    (record { wires = kept .0; flips = kept .1 .0; sets = kept .1 .1 .0; coeffs = kept .1 .1 .1 .0 })
+    in
+    let w = c .before .before .before .before .before .before .before .before .before .before .before .before .before .before .before .before .before .backwards in
+    let kept₁ = w .kept .1 .1 in
+    let whole =
+    last-run (inverseList (gatesIn (now (a .second)))) (f .result) half (w .ensures)
+    (record { wires = kept₁ .0; flips = kept₁ .1 .0; sets = kept₁ .1 .1 .0; coeffs = kept₁ .1 .1 .1 .0 })
+    in
+    built (joinedIn (now (a .first)) (now (a .second))) whole (c .before .before .before .before .canonical .ensures) (c .before .before .before .before .before .before .before .path-variables .ensures)
 
 pub build-spec : {M : Type 1} → statement M
 build-spec =
     tie.close
     (tie.spec
-    array-borrow-prefix-ws
-    slice-aggregate-build-in
-    array-borrow-prefix-fs
-    slice-aggregate-build-in-2
-    build-in-requires
+    start-requires
+    forwards-requires
+    backwards-requires
+    cast-path-variables
+    path-variables-requires
+    canonical-requires
     same-length
     same-length-2
+    same-length-3
+    same-length-4
     returns)

@@ -12,13 +12,13 @@ use borrow.Author.Needs.{needs}
 use Rattle.phase_sum_gates.proofs.controlled_z.Statement.{statement}
 use Rattle.phase_sum_gates.proofs.controlled_z.Tie as tie
 
-wire-at-requires : tie.Need-wire-at-requires
-wire-at-requires c κs =
+wire-requires : tie.Need-wire-requires
+wire-requires c κs =
     let pre = c .before .before .before .before .before .pre in
     (pre .within .0 .0, omega (arith, pre .within .0 .0, pre .flips))
 
-wire-at-requires-2 : tie.Need-wire-at-requires-2
-wire-at-requires-2 c κs =
+wire-requires-2 : tie.Need-wire-requires-2
+wire-requires-2 c κs =
     let pre = c .before .before .before .before .before .before .pre in
     (pre .within .0 .1, omega (arith, pre .within .0 .1, pre .flips))
 
@@ -41,11 +41,11 @@ returns c =
     let a = at-start .args in
     let pre = at-start .pre in
     let phase = at-phase .put-product in
-    controlled-z-leaves (a .run) (a .a) (a .b) (lent (a .ws) (a .fs) (a .sets) (a .coeffs)) (at-wire .wire-at .result)
-    (c .before .before .before .before .before .before .before .wire-at2 .result) (phase .result)
+    controlled-z-leaves (a .run) (a .a) (a .b) (lent (a .ws) (a .fs) (a .sets) (a .coeffs)) (at-wire .wire .result)
+    (c .before .before .before .before .before .before .before .wire2 .result) (phase .result)
     (pre .started)
-    (at-wire .wire-at .ensures)
-    (c .before .before .before .before .before .before .before .wire-at2 .ensures)
+    (at-wire .wire .ensures)
+    (c .before .before .before .before .before .before .before .wire2 .ensures)
     (phase .ensures .0)
     (phase .ensures .1)
 
@@ -53,8 +53,8 @@ pub controlled-z-spec : {M : Type 1} → statement M
 controlled-z-spec =
     tie.close
     (tie.spec
-    wire-at-requires
-    wire-at-requires-2
+    wire-requires
+    wire-requires-2
     put-product-requires
     same-length
     same-length-2

@@ -9,8 +9,8 @@ use borrow.Author.Needs.{needs}
 use Rattle.phase_sum_gates.proofs.diagonal.Statement.{statement}
 use Rattle.phase_sum_gates.proofs.diagonal.Tie as tie
 
-wire-at-requires : tie.Need-wire-at-requires
-wire-at-requires c κs =
+wire-requires : tie.Need-wire-requires
+wire-requires c κs =
     let pre = c .before .before .before .before .before .pre in
     (pre .0, omega (arith, pre .0, pre .1))
 
@@ -31,10 +31,10 @@ returns c =
     let at-start = at-wire .before .before .before .before .before .before in
     let a = at-start .args in
     let pre = at-start .pre in
-    diagonal-leaves (a .run) (a .c) (a .q) (lent (a .ws) (a .fs) (a .sets) (a .coeffs)) (at-wire .wire-at .result)
-    (at-phase .put-phase .result) (pre .2) (at-wire .wire-at .ensures) (at-phase .put-phase .ensures .0)
+    diagonal-leaves (a .run) (a .c) (a .q) (lent (a .ws) (a .fs) (a .sets) (a .coeffs)) (at-wire .wire .result)
+    (at-phase .put-phase .result) (pre .2) (at-wire .wire .ensures) (at-phase .put-phase .ensures .0)
     (at-phase .put-phase .ensures .1)
 
 pub diagonal-spec : {M : Type 1} → statement M
 diagonal-spec =
-    tie.close (tie.spec wire-at-requires put-phase-requires same-length same-length-2 returns)
+    tie.close (tie.spec wire-requires put-phase-requires same-length same-length-2 returns)

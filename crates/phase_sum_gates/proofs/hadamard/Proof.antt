@@ -18,8 +18,8 @@ single-requires c κs =
     let pre = c .before .before .before .before .before .pre in
     unfold tally oneQubitKind in omega (arith, pre .variables)
 
-wire-at-requires : tie.Need-wire-at-requires
-wire-at-requires c κs =
+wire-requires : tie.Need-wire-requires
+wire-requires c κs =
     let pre = c .before .before .before .before .before .before .before .before .pre in
     (pre .within .0, omega (arith, pre .within .0, pre .flips))
 
@@ -59,10 +59,10 @@ returns c =
     let a = at-start .args in
     let pre = at-start .pre in
     let phase = at-phase .put-product in
-    hadamard-leaves (a .run) (a .q) (lent (a .ws) (a .fs) (a .sets) (a .coeffs)) _ _ (at-wire .wire-at .result) _ (phase .result) _
+    hadamard-leaves (a .run) (a .q) (lent (a .ws) (a .fs) (a .sets) (a .coeffs)) _ _ (at-wire .wire .result) _ (phase .result) _
     (pre .started)
     refl
-    (at-wire .wire-at .ensures)
+    (at-wire .wire .ensures)
     (ap of (c .before .before .before .before .before .before .before .before .before .before .before .before .before .before .before .before .before .single .ensures))
     (phase .ensures .0)
     (phase .ensures .1)
@@ -73,7 +73,7 @@ hadamard-spec =
     tie.close
     (tie.spec
     single-requires
-    wire-at-requires
+    wire-requires
     put-product-requires
     set-wire-requires
     add-t26

@@ -12,8 +12,8 @@ use borrow.Author.Needs.{needs}
 use Rattle.phase_sum_gates.proofs.y_gate.Statement.{statement}
 use Rattle.phase_sum_gates.proofs.y_gate.Tie as tie
 
-wire-at-requires : tie.Need-wire-at-requires
-wire-at-requires c κs =
+wire-requires : tie.Need-wire-requires
+wire-requires c κs =
     let pre = c .before .before .before .before .before .before .pre in
     (pre .within .0, omega (arith, pre .within .0, pre .flips))
 
@@ -48,10 +48,10 @@ returns c =
     let a = at-start .args in
     let pre = at-start .pre in
     let phase = at-phase .put-phase in
-    y-leaves (a .run) (a .q) (lent (a .ws) (a .fs) (a .sets) (a .coeffs)) _ (at-wire .wire-at .result) (phase .result)
+    y-leaves (a .run) (a .q) (lent (a .ws) (a .fs) (a .sets) (a .coeffs)) _ (at-wire .wire .result) (phase .result)
     (c .add .result)
     (pre .started)
-    (at-wire .wire-at .ensures)
+    (at-wire .wire .ensures)
     (phase .ensures .0)
     (phase .ensures .1)
     (x-moved (a .q) _ _ (at-flip .flip-wire .ensures))
@@ -61,7 +61,7 @@ pub y-gate-spec : {M : Type 1} → statement M
 y-gate-spec =
     tie.close
     (tie.spec
-    wire-at-requires
+    wire-requires
     put-phase-requires
     flip-wire-requires
     add-requires

@@ -1,19 +1,30 @@
--- `phase_sum::stepping::join_out` meets its contract: the terms without y are stored, then those with z replaced, and all are
--- merged.
+-- `phase_sum_stepping::join_out` meets its contract: the terms without y are stored, then the wires and the terms with z replaced, and all terms are merged.
 -- Assumes nothing.
 use native.Mathlib.Omega.{arith}
-use borrow.Author.Needs.{needs}
 use Rattle.phase_sum_meaning.specs.Parity.{of, replaceIn}
-use Rattle.phase_sum_terms.specs.Workspace.{parityOf}
+use Rattle.phase_sum_meaning.specs.Stepping.{replace, takeOut}
+use Rattle.phase_sum_terms.specs.Workspace.{parityOf, lent, sumOf}
+use Rattle.phase_sum_terms.proofs.Members.{members-without}
+use Rattle.phase_sum_terms.proofs.Changing.{became}
 use Rattle.phase_sum_terms.proofs.Passes.{rebuilt, joined-out}
+use borrow.Author.Needs.{needs}
 use Rattle.phase_sum_stepping.proofs.join_out.Statement.{statement}
 use Rattle.phase_sum_stepping.proofs.join_out.Tie as tie
+
+replace-in-wires-requires : tie.Need-replace-in-wires-requires
+replace-in-wires-requires c κs = search needs
 
 take-out-unmerged-requires : tie.Need-take-out-unmerged-requires
 take-out-unmerged-requires c κs = search needs
 
 replace-unmerged-requires : tie.Need-replace-unmerged-requires
 replace-unmerged-requires c κs = search needs
+
+without-requires : tie.Need-without-requires
+without-requires c κs = search needs
+
+without-requires-2 : tie.Need-without-requires-2
+without-requires-2 c κs = search needs
 
 canonical-requires : tie.Need-canonical-requires
 canonical-requires c κs = search needs
@@ -24,37 +35,40 @@ same-length c = search needs
 same-length-2 : tie.Need-same-length-2
 same-length-2 c = search needs
 
+same-length-3 : tie.Need-same-length-3
+same-length-3 c = search needs
+
+same-length-4 : tie.Need-same-length-4
+same-length-4 c = search needs
+
 returns : tie.Need-returns
+unfolding replace takeOut
 returns c =
-    let at-merged = c .before .before .before .before in
-    let at-sent = at-merged .before .before .before .before .before .before .before in
-    let at-taken = at-sent .before .before .before .before .before in
-    let a = at-taken .before .before .before .before .args in
-    let sent = at-sent .replace-unmerged .ensures in
-    joined-out
-    (a .y)
-    (a .z)
-    (parityOf (a .p))
-    (a .phase)
-    (omega arith)
-    (omega arith)
-    (at-taken .take-out-unmerged .ensures)
-    (rebuilt
-    (λ u. replaceIn (a .z) (parityOf (a .p)) (of u))
-    (a .phase)
-    (omega arith)
-    (omega arith)
-    (sent .0)
-    (sent .1)
-    (at-merged .canonical .ensures))
+    let a = c .before .before .before .before .before .before .before .before .before .before .before .before .before .before .before .before .before .before .before .before .before .before .before .before .before .before .before .before .before .before .before .before .args in
+    let stands = c .before .before .before .before .before .before .before .before .before .before .before .before .before .before .before .before .before .before .before .before .before .before .before .before .before .before .before .before .before .before .before .before .pre .2 in
+    let p = parityOf (a .p) in
+    let l = lent (a .ws) (a .fs) (a .sets) (a .coeffs) in
+    let sent = c .before .before .before .before .before .before .before .before .before .before .before .before .before .replace-unmerged .ensures in
+    became (replace (a .z) p (takeOut (a .y) (sumOf (a .sum) l))) _ l _
+    (joined-out (a .y) (a .z) p (a .sum .phase) (stands .sets) (stands .coeffs) (c .before .before .before .before .before .before .before .before .before .before .before .before .before .before .before .before .before .before .take-out-unmerged .ensures)
+    (rebuilt (λ u. replaceIn (a .z) p (of u)) (a .sum .phase) (omega arith) (stands .coeffs) (sent .0) (sent .1)
+    (c .before .before .before .before .canonical .ensures)))
+    (c .before .before .before .before .before .before .before .before .before .before .before .before .before .before .before .before .before .before .before .before .before .before .before .before .replace-in-wires .ensures)
+    (rw
+    (c .before .before .before .before .before .before .before .without2 .ensures, c .before .before .before .before .before .before .before .before .without .ensures, members-without _ (a .z), members-without (a .sum .live) (a .y)))
 
 pub join-out-spec : {M : Type 1} → statement M
 join-out-spec =
     tie.close
     (tie.spec
+    replace-in-wires-requires
     take-out-unmerged-requires
     replace-unmerged-requires
+    without-requires
+    without-requires-2
     canonical-requires
     same-length
     same-length-2
+    same-length-3
+    same-length-4
     returns)

@@ -1,90 +1,83 @@
--- `phase_sum::stepping::replace_in_wires` meets its contract. The loop's invariant: z is replaced in the first q wires, and the
--- others are as they were. The measure is how many wires are left.
+-- `phase_sum_stepping::replace_in_wires` meets its contract. The loop's invariant: z is replaced in the first q wires, and the others are as they were. The measure is how many wires are left.
 -- Assumes nothing.
-use mathlib.Core.Path.{_≡_, _∙_}
+use mathlib.Core.Path.{_≡_, sym, refl, _∙_}
 use mathlib.Core.List.{map}
 use Prim.Native.Nat.{_-_, _≤_}
 use native.Mathlib.Omega.{arith}
-use lib.ListN.{length, take, length-set, length-map}
-use borrow.Author.Needs.{needs}
+use lib.ListN.{length, take}
+use denote.Ref.{now}
 use Rattle.phase_sum_meaning.specs.Parity.{of, replaceIn}
-use Rattle.phase_sum_terms.specs.Workspace.{wiresOf, parityOf}
+use Rattle.phase_sum_terms.specs.Workspace.{zipWires, parityOf}
 use Rattle.phase_sum_terms.proofs.Passes.{Front, front-none, front-mapped, front-full, length-wires}
-use Rattle.phase_sum_terms.proofs.WireLaws.{wires-set, wires-at}
 use Rattle.phase_sum_stepping.proofs.replace_in_wires.Statement.{statement}
 use Rattle.phase_sum_stepping.proofs.replace_in_wires.Tie as tie
 
 abbrev Inv-loop : tie.InvT-loop
-Inv-loop n z p out₀ q₀ out q =
-    (q ≤ n)
-    × (length (out .sets) ≡ 16)
-    × (length (out .flips) ≡ 16)
-    × (length (wiresOf n out₀) ≡ n)
-    × Front q (map (replaceIn z (parityOf p)) (take q (wiresOf n out₀))) (wiresOf n out₀) (wiresOf n out)
+Inv-loop ws₀ fs₀ z p q₀ ws fs q =
+    (q ≤ length ws₀)
+    × (length ws ≡ length ws₀)
+    × (length fs ≡ length ws₀)
+    × (length fs₀ ≡ length ws₀)
+    × (length (zipWires ws₀ fs₀) ≡ length ws₀)
+    × Front q (map (replaceIn z (parityOf p)) (take q (zipWires ws₀ fs₀))) (zipWires ws₀ fs₀) (zipWires ws fs)
 
 abbrev μ-loop : tie.MeasureT-loop
-μ-loop n z p out₀ q₀ out q = n - q
+μ-loop ws₀ fs₀ z p q₀ ws fs q = length ws₀ - q
 
 loop-holds : tie.Need-loop-holds Inv-loop μ-loop
 loop-holds c =
-    let a = c .args in
-    let owned = c .good .0 .1 .1 in
-    let ss : length (a .wires .sets) ≡ 16 = omega (arith, length-map (a .wires .sets) (λ s. s), owned .0 .1 .0 .1) in
-    let bs : length (a .wires .flips) ≡ 16 = omega (arith, length-map (a .wires .flips) (λ b. b), owned .1 .0 .1 .0 .1) in
-    (omega arith, ss, bs, length-wires (a .n) (a .wires .sets) (a .wires .flips) (omega arith) (omega arith), front-none _)
+    let a = c .before .before .args in
+    let same = c .before .before .pre .1 in
+    (omega arith, refl, same, same, length-wires (now (a .ws)) (now (a .fs)) same, front-none _)
 
-mul-t10 : tie.Need-mul-t10 Inv-loop μ-loop
-mul-t10 c = omega arith
-
-element-copy-out-t13 : tie.Need-element-copy-out-t13 Inv-loop μ-loop
-element-copy-out-t13 c = omega arith
-
-element-copy-out-t9 : tie.Need-element-copy-out-t9 Inv-loop μ-loop
-element-copy-out-t9 c = omega arith
+wire-requires : tie.Need-wire-requires Inv-loop μ-loop
+wire-requires c κs =
+    let inv = c .before .before .before .loop .inv in
+    (c .before .before .loop-test .taken, omega (arith, c .before .before .loop-test .taken, inv .1, inv .2))
 
 replace-in-requires : tie.Need-replace-in-requires Inv-loop μ-loop
-replace-in-requires c κs = search needs
+replace-in-requires c κs = c .before .before .before .before .before .before .before .pre .0
 
-mul-out : tie.Need-mul-out Inv-loop μ-loop
-mul-out c = omega arith
-
-element-write-out : tie.Need-element-write-out Inv-loop μ-loop
-element-write-out c = omega arith
-
-element-write-out-2 : tie.Need-element-write-out-2 Inv-loop μ-loop
-element-write-out-2 c = omega arith
+set-wire-requires : tie.Need-set-wire-requires Inv-loop μ-loop
+set-wire-requires c κs =
+    let inv = c .before .before .before .before .before .before .before .loop .inv in
+    (c .before .before .before .before .before .before .loop-test .taken, omega (arith, c .before .before .before .before .before .before .loop-test .taken, inv .1, inv .2))
 
 add-q : tie.Need-add-q Inv-loop μ-loop
-add-q c = omega arith
+add-q c = omega (arith, c .before .before .before .before .before .before .before .before .before .before .before .loop-test .taken)
 
 loop-less : tie.Need-loop-less Inv-loop μ-loop
-loop-less c = omega arith
+loop-less c = omega (arith, c .before .before .before .before .before .before .before .before .before .before .before .loop-test .taken, c .before .before .before .before .before .before .before .before .before .before .before .before .loop .inv .1)
 
 loop-again : tie.Need-loop-again Inv-loop μ-loop
 loop-again c =
-    let at-loop = c .before .before .before .before in
-    let a = at-loop .before .args in
-    let q = at-loop .loop .q in
-    let out = at-loop .loop .out in
-    let inv = at-loop .loop .inv in (
-      omega arith,
-      length-set (out .sets) q _ ∙ inv .1,
-      length-set (out .flips) q _ ∙ inv .2,
+    let a = c .before .before .before .before .before .before .before .before .before .before .before .before .before .before .before .args in
+    let loop = c .before .before .before .before .before .before .before .before .before .before .before .before .loop in
+    let inv = loop .inv in
+    let kept = c .before .before .before .before .set-wire .kept in
+    let here = c .before .before .before .before .before .before .before .before .before .before .before .loop-test .taken in (
+      omega (arith, here, inv .1),
+      kept .0 ∙ inv .1,
+      kept .1 .0 ∙ inv .2,
       inv .3,
-      rw (
-        wires-set (a .n) out q (c .replace-in .result),
-        c .replace-in .ensures,
-        wires-at (a .n) out q (omega arith) (omega arith) (omega arith),
-      )
-          (front-mapped (replaceIn (a .z) (parityOf (a .p))) (of 0) (inv .4) (omega arith)),
+      inv .4,
+      rw (c .before .before .before .before .set-wire .ensures, c .before .before .before .before .before .before .before .replace-in .ensures, c .before .before .before .before .before .before .before .before .wire .ensures)
+          (front-mapped (replaceIn (a .z) (parityOf (a .p))) (of 0) (inv .5) (omega (arith, here, inv .1, inv .4))),
     )
+
+same-length : tie.Need-same-length Inv-loop μ-loop
+same-length c = c .before .loop .inv .1
+
+same-length-2 : tie.Need-same-length-2 Inv-loop μ-loop
+same-length-2 c = c .before .loop .inv .2 ∙ sym (c .before .loop .inv .3)
 
 returns : tie.Need-returns Inv-loop μ-loop
 returns c =
-    let a = c .before .before .args in
-    let inv = c .before .loop .inv in
-    let done : c .before .loop .q ≡ a .n = omega arith in
-    front-full (replaceIn (a .z) (parityOf (a .p))) (a .n) (rw done at (inv .4)) (inv .3)
+    let a = c .before .before .before .before .args in
+    let loop = c .before .loop in
+    let inv = loop .inv in
+    let done : loop .q ≡ length (now (a .ws)) = omega (arith, c .loop-test .left, inv .0, inv .1) in
+    front-full (replaceIn (a .z) (parityOf (a .p))) (length (now (a .ws))) (rw done at (inv .5)) (inv .4)
 
 pub replace-in-wires-spec : {M : Type 1} → statement M
 replace-in-wires-spec =
@@ -93,14 +86,12 @@ replace-in-wires-spec =
     Inv-loop
     μ-loop
     loop-holds
-    mul-t10
-    element-copy-out-t13
-    element-copy-out-t9
+    wire-requires
     replace-in-requires
-    mul-out
-    element-write-out
-    element-write-out-2
+    set-wire-requires
     add-q
     loop-less
     loop-again
+    same-length
+    same-length-2
     returns)

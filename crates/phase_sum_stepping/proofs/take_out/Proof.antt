@@ -1,16 +1,23 @@
--- `phase_sum::stepping::take_out` meets its contract: the terms without y are stored, and then merged.
+-- `phase_sum_stepping::take_out` meets its contract: the terms without y are stored, and then merged.
 -- Assumes nothing.
+use mathlib.Core.Path.{refl}
 use native.Mathlib.Omega.{arith}
-use borrow.Author.Needs.{needs}
+use denote.Ref.{now}
 use Rattle.phase_sum_meaning.specs.Parity.{of}
-use Rattle.phase_sum_meaning.specs.Stepping.{outOf}
-use Rattle.phase_sum_terms.specs.Workspace.{held}
+use Rattle.phase_sum_meaning.specs.Stepping.{outOf, takeOut}
+use Rattle.phase_sum_terms.specs.Workspace.{held, slices, sumOf}
+use Rattle.phase_sum_terms.proofs.Members.{members-without}
+use Rattle.phase_sum_terms.proofs.Changing.{became}
 use Rattle.phase_sum_terms.proofs.Passes.{sent-constant, sent-stored, rebuilt}
+use borrow.Author.Needs.{needs}
 use Rattle.phase_sum_stepping.proofs.take_out.Statement.{statement}
 use Rattle.phase_sum_stepping.proofs.take_out.Tie as tie
 
 take-out-unmerged-requires : tie.Need-take-out-unmerged-requires
 take-out-unmerged-requires c κs = search needs
+
+without-requires : tie.Need-without-requires
+without-requires c κs = search needs
 
 add-requires : tie.Need-add-requires
 add-requires c κs = search needs
@@ -25,28 +32,29 @@ same-length-2 : tie.Need-same-length-2
 same-length-2 c = search needs
 
 returns : tie.Need-returns
-returns c =
-    let at-merged = c .before .before .before .before in
-    let at-constant = at-merged .before .before .before in
-    let at-taken = at-constant .before .before .before in
-    let a = at-taken .before .before .before .before .args in
-    let ss = a .sets .now in
-    let cs = a .coeffs .now in
-    let n = a .phase .count in
-    rebuilt
-    (λ u. of (outOf (a .y) u))
-    (a .phase)
-    (omega arith)
-    (omega arith)
-    (rw (sent-constant (outOf (a .y)) (a .phase .constant) (held n ss cs)) (omega (arith, at-constant .add .ensures)))
-    (sent-stored (outOf (a .y)) n ss cs _ (omega arith) (omega arith) (at-taken .take-out-unmerged .ensures))
-    (at-merged .canonical .ensures)
+unfolding takeOut
+returns c ws fs =
+    let a = c .before .before .before .before .before .before .before .before .before .before .before .before .before .before .before .before .args in
+    let pre = c .before .before .before .before .before .before .before .before .before .before .before .before .before .before .before .before .pre in
+    let ss = now (a .sets) in
+    let cs = now (a .coeffs) in
+    let phase = a .sum .phase in
+    let n = phase .count in
+    let l = slices ws fs ss cs in
+    became (takeOut (a .y) (sumOf (a .sum) l)) _ l _
+    (rebuilt (λ u. of (outOf (a .y) u)) phase (pre .1) (pre .2)
+    (rw (sent-constant (outOf (a .y)) (phase .constant) (held n ss cs)) (omega (arith, c .before .before .before .before .before .before .before .add .ensures)))
+    (sent-stored (outOf (a .y)) n ss cs _ (pre .1) (pre .2) (c .before .before .before .before .before .before .before .before .before .before .before .take-out-unmerged .ensures))
+    (c .before .before .before .before .canonical .ensures))
+    refl
+    (rw (c .before .before .before .before .before .before .before .before .without .ensures) (members-without (a .sum .live) (a .y)))
 
 pub take-out-spec : {M : Type 1} → statement M
 take-out-spec =
     tie.close
     (tie.spec
     take-out-unmerged-requires
+    without-requires
     add-requires
     canonical-requires
     same-length

@@ -1,11 +1,16 @@
--- `phase_sum::stepping::turn_out` meets its contract: the terms without y are stored, the turn's term is put behind them, and all
--- are merged.
+-- `phase_sum_stepping::turn_out` meets its contract: the terms without y are stored, the turn's term is put behind them, and all are merged.
 -- Assumes nothing.
+use mathlib.Core.Path.{refl}
 use mathlib.Core.List.{[], _∷_}
 use native.Mathlib.Omega.{arith}
-use borrow.Author.Needs.{needs}
+use denote.Ref.{now}
+use Rattle.phase_sum_meaning.specs.Stepping.{takeOut, turned}
+use Rattle.phase_sum_terms.specs.Workspace.{slices, sumOf}
+use Rattle.phase_sum_terms.proofs.Members.{members-without}
+use Rattle.phase_sum_terms.proofs.Changing.{became}
 use Rattle.phase_sum_terms.proofs.Passes.{turned-out}
 use Rattle.phase_sum_terms.proofs.WireLaws.{stored-count}
+use borrow.Author.Needs.{needs}
 use Rattle.phase_sum_stepping.proofs.turn_out.Statement.{statement}
 use Rattle.phase_sum_stepping.proofs.turn_out.Tie as tie
 
@@ -18,6 +23,9 @@ turn-coeff-requires c κs = search needs
 append-requires : tie.Need-append-requires
 append-requires c κs = search needs
 
+without-requires : tie.Need-without-requires
+without-requires c κs = search needs
+
 turn-constant-requires : tie.Need-turn-constant-requires
 turn-constant-requires c κs = search needs
 
@@ -26,8 +34,7 @@ add-requires c κs = search needs
 
 canonical-requires : tie.Need-canonical-requires
 canonical-requires c κs =
-    let at-more = c .before .before .before .before .before .before .before .before in
-    let count = stored-count (_ ∷ []) (omega arith) (omega arith) (at-more .append .ensures) in
+    let count = stored-count (_ ∷ []) (omega arith) (omega arith) (c .before .before .before .before .before .before .before .before .before .append .ensures) in
     (omega arith, omega arith)
 
 same-length : tie.Need-same-length
@@ -37,25 +44,20 @@ same-length-2 : tie.Need-same-length-2
 same-length-2 c = search needs
 
 returns : tie.Need-returns
-returns c =
-    let at-merged = c .before .before .before .before in
-    let at-constant = at-merged .before .before .before in
-    let at-turn = at-constant .before in
-    let at-more = at-turn .before .before .before .before .before in
-    let at-coeff = at-more .before in
-    let at-taken = at-coeff .before .before .before .before .before in
-    let a = at-taken .before .before .before .before .args in
-    turned-out
-    (a .y)
-    (a .c)
-    (a .l)
-    (a .phase)
-    (omega arith)
-    (omega arith)
-    (rw (← at-turn .turn-constant .ensures) (at-constant .add .ensures))
-    (at-taken .take-out-unmerged .ensures)
-    (rw (at-coeff .turn-coeff .ensures) at (at-more .append .ensures))
-    (at-merged .canonical .ensures)
+unfolding turned takeOut
+returns c ws fs =
+    let a = c .before .before .before .before .before .before .before .before .before .before .before .before .before .before .before .before .before .before .before .before .before .before .before .before .before .args in
+    let pre = c .before .before .before .before .before .before .before .before .before .before .before .before .before .before .before .before .before .before .before .before .before .before .before .before .before .pre in
+    let phase = a .sum .phase in
+    let l = slices ws fs (now (a .sets)) (now (a .coeffs)) in
+    became (turned (a .c) (a .l) (takeOut (a .y) (sumOf (a .sum) l))) _ l _
+    (turned-out (a .y) (a .c) (a .l) phase (omega (arith, pre .1)) (omega (arith, pre .2))
+    (rw (← c .before .before .before .before .before .before .before .before .turn-constant .ensures) (c .before .before .before .before .before .before .before .add .ensures))
+    (c .before .before .before .before .before .before .before .before .before .before .before .before .before .before .before .before .before .before .before .before .take-out-unmerged .ensures)
+    (rw (c .before .before .before .before .before .before .before .before .before .before .before .before .before .before .before .turn-coeff .ensures) at (c .before .before .before .before .before .before .before .before .before .before .before .before .before .before .append .ensures))
+    (c .before .before .before .before .canonical .ensures))
+    refl
+    (rw (c .before .before .before .before .before .before .before .before .before .without .ensures) (members-without (a .sum .live) (a .y)))
 
 pub turn-out-spec : {M : Type 1} → statement M
 turn-out-spec =
@@ -64,6 +66,7 @@ turn-out-spec =
     take-out-unmerged-requires
     turn-coeff-requires
     append-requires
+    without-requires
     turn-constant-requires
     add-requires
     canonical-requires

@@ -1,94 +1,102 @@
--- `comparison::comparing::decide` meets its contract. The built sum is begun, pinned, reduced and judged, which is the comparison by
--- its definition; each call keeps what is behind the first places.
+-- `comparison::comparing::decide` meets its contract: only the first places are lent, so that what is behind them stays.
 -- Assumes nothing.
-use borrow.Author.Needs.{needs}
-use mathlib.Core.Path.{_∙_}
-use native.Mathlib.Omega.{arith}
+use mathlib.Core.Path.{_≡_, sym, _∙_}
+use mathlib.Core.List.{List, _++_}
+use mathlib.Core.Bool.{false}
+use Prim.Native.Nat.{ℕ}
+use lib.ListN.{length, take, drop, replicate}
+use lib.Seq.{length-take-le, drop-append-seam}
 use denote.Ref.{now}
+use Rattle.phase_sum_meaning.specs.Room.{places}
 use Rattle.phase_sum_terms.specs.Unmerged.{gatesIn}
-use Rattle.comparison_types.proofs.ClauseLaws.{built-begins, built-kept, begun-qubits, begun-sum, begun-sized, decided}
+use borrow.Author.Needs.{needs}
 use Rattle.comparison.proofs.comparing.decide.Statement.{statement}
 use Rattle.comparison.proofs.comparing.decide.Tie as tie
-use Rattle.comparison_types.proofs.Sizing.{kept-both}
 
-build-requires : tie.Need-build-requires
-build-requires c κs = search needs
+-- what is behind a part of m places that was put back
+behind : (m : ℕ) (part old : List ℕ) → length part ≡ m → drop m (part ++ drop m old) ≡ drop m old
+behind m part old e = rw (← e) (drop-append-seam part (drop (length part) old))
 
-begin-requires : tie.Need-begin-requires
-begin-requires c κs =
-    let at-build = c .before .before .before .before in
-    let at-start = at-build .before .before .before .before .before .before .before in
-    let a = at-start .args in
-    let pre = at-start .pre in
-    built-begins (gatesIn (now (a .first))) (gatesIn (now (a .second))) (at-build .build .ensures) (pre .0 .few) (pre .0 .variables)
+array-borrow-prefix-ws : tie.Need-array-borrow-prefix-ws
+array-borrow-prefix-ws c = search needs
 
-pin-requires : tie.Need-pin-requires
-pin-requires c κs =
-    let at-begin = c .before .before in
-    let at-build = at-begin .before .before .before .before .before in
-    let at-start = at-build .before .before .before .before .before .before .before in
-    let a = at-start .args in
-    let pre = at-start .pre in
-    let begins = at-begin .begin .ensures in
-    let kept = at-build .build .kept .1 .1 .1 in (
-      begins .1 .0,
-      begun-sized (gatesIn (now (a .first))) (gatesIn (now (a .second))) (at-build .build .ensures) (at-begin .begin .result)
-          (begins .0 _ _) (begins .1 .1 .0) (begins .1 .1 .1) (pre .0 .few) (pre .1)
-          (omega (arith, pre .2, kept .0)) (omega (arith, pre .3, kept .1 .0)),
+slice-aggregate-decide-in : tie.Need-slice-aggregate-decide-in
+slice-aggregate-decide-in c = sym (length-take-le (c .before .before .before .before .before .args .n) (replicate 16 0) (c .before .before .before .before .before .pre .0 .few))
+
+array-borrow-prefix-fs : tie.Need-array-borrow-prefix-fs
+array-borrow-prefix-fs c = search needs
+
+slice-aggregate-decide-in-2 : tie.Need-slice-aggregate-decide-in-2
+slice-aggregate-decide-in-2 c = sym (length-take-le (c .before .before .before .before .before .before .args .n) (replicate 16 false) (c .before .before .before .before .before .before .pre .0 .few))
+
+slice-relend-prefix-decide-in : tie.Need-slice-relend-prefix-decide-in
+slice-relend-prefix-decide-in c = search needs
+
+slice-aggregate-decide-in-3 : tie.Need-slice-aggregate-decide-in-3
+slice-aggregate-decide-in-3 c = sym (length-take-le places (now (c .before .before .before .before .before .before .before .args .sets)) (c .before .before .before .before .before .before .before .pre .2))
+
+slice-relend-prefix-decide-in-2 : tie.Need-slice-relend-prefix-decide-in-2
+slice-relend-prefix-decide-in-2 c = search needs
+
+slice-aggregate-decide-in-4 : tie.Need-slice-aggregate-decide-in-4
+slice-aggregate-decide-in-4 c = sym (length-take-le places (now (c .before .before .before .before .before .before .before .before .args .coeffs)) (c .before .before .before .before .before .before .before .before .pre .3))
+
+decide-in-requires : tie.Need-decide-in-requires
+decide-in-requires c κs =
+    let a = c .before .before .before .before .before .before .before .before .args in
+    let pre = c .before .before .before .before .before .before .before .before .pre in
+    let e = length-take-le {A = ℕ} (a .n) (replicate 16 0) (pre .0 .few) in
+    let f = length-take-le (a .n) (replicate 16 false) (pre .0 .few) in
+    let b = pre .0 in (
+      f ∙ sym e,
+      rw e
+          (record {
+            few = b .few;
+            threes = b .threes;
+            threes′ = b .threes′;
+            within = b .within;
+            within′ = b .within′;
+            variables = b .variables;
+            sets = rw (length-take-le places (now (a .sets)) (pre .2)) (pre .1);
+            coeffs = rw (length-take-le places (now (a .coeffs)) (pre .3)) (pre .1);
+          }),
     )
 
-reduce-end-requires : tie.Need-reduce-end-requires
-reduce-end-requires c κs = search needs
-
-judge-requires : tie.Need-judge-requires
-judge-requires c κs = search needs
-
 same-length : tie.Need-same-length
-same-length c =
-    let at-reduce = c .before .before .before .before .before .before .before in
-    let at-pin = at-reduce .before .before .before .before .before .before .before in
-    let at-build = at-pin .before .before .before .before .before .before .before .before in
-    at-reduce .reduce-end .kept .1 .0 ∙ at-pin .pin .kept .1 .0 ∙ at-build .build .kept .1 .1 .1 .0
+same-length c = search needs
 
 same-length-2 : tie.Need-same-length-2
-same-length-2 c =
-    let at-reduce = c .before .before .before .before .before .before .before in
-    let at-pin = at-reduce .before .before .before .before .before .before .before in
-    let at-build = at-pin .before .before .before .before .before .before .before .before in
-    at-reduce .reduce-end .kept .1 .1 .0 ∙ at-pin .pin .kept .1 .1 .0 ∙ at-build .build .kept .1 .1 .1 .1 .0
+same-length-2 c = search needs
 
 returns : tie.Need-returns
 returns c =
-    let at-reduce = c .before .before .before .before .before .before .before in
-    let at-pin = at-reduce .before .before .before .before .before .before .before in
-    let at-begin = at-pin .before .before .before in
-    let at-build = at-begin .before .before .before .before .before in
-    let at-start = at-build .before .before .before .before .before .before .before in
-    let a = at-start .args in
-    let gs = gatesIn (now (a .first)) in
-    let hs = gatesIn (now (a .second)) in
-    let builds = at-build .build .ensures in
-    let begins = at-begin .begin .ensures in
-    let pins = at-pin .pin .ensures in
-    let reduces = at-reduce .reduce-end .ensures in
-    let s = at-begin .begin .result in
-    let same = begins .0 (at-build .build .last .1 .1 .1 .0) (at-build .build .last .1 .1 .1 .1 .0) in (
-      decided (a .n) gs hs
-          (begun-qubits gs hs builds s same (begins .1 .1 .0) (begins .1 .1 .1))
-          (begun-sum gs hs builds s same (begins .1 .1 .0) (begins .1 .1 .1))
-          (pins .1 .0 .qubits) (pins .0) (reduces .1 .qubits) (reduces .0) (c .judge .ensures),
-      kept-both (built-kept gs hs builds (at-start .pre .1)) (kept-both (pins .1 .0 .kept) (reduces .1 .kept)),
+    let a = c .before .before .before .before .before .before .before .before .before .before .before .before .before .before .before .args in
+    let pre = c .before .before .before .before .before .before .before .before .before .before .before .before .before .before .before .pre in
+    let d = c .before .before .before .before .before .before .decide-in in
+    let e = length-take-le {A = ℕ} (a .n) (replicate 16 0) (pre .0 .few) in
+    let kept = d .kept .1 .1 .1 .1 in (
+      rw e at (d .ensures),
+      record {
+        sets = behind places (d .last .1 .1 .1 .1 .0) (now (a .sets)) (kept .0 ∙ length-take-le places (now (a .sets)) (pre .2));
+        coeffs =
+            behind places (d .last .1 .1 .1 .1 .1 .0) (now (a .coeffs))
+            (kept .1 .0 ∙ length-take-le places (now (a .coeffs)) (pre .3));
+      },
     )
 
 pub decide-spec : {M : Type 1} → statement M
 decide-spec =
     tie.close
     (tie.spec
-    build-requires
-    begin-requires
-    pin-requires
-    reduce-end-requires
-    judge-requires
+    array-borrow-prefix-ws
+    slice-aggregate-decide-in
+    array-borrow-prefix-fs
+    slice-aggregate-decide-in-2
+    slice-relend-prefix-decide-in
+    slice-aggregate-decide-in-3
+    slice-relend-prefix-decide-in-2
+    slice-aggregate-decide-in-4
+    decide-in-requires
     same-length
     same-length-2
     returns)

@@ -1,25 +1,24 @@
 -- `comparison::comparing::reduce_end` meets its contract: a blocked end stays as it is, any other is reduced.
 -- Assumes nothing.
-use mathlib.Core.Path.{refl, sym, ap}
+use mathlib.Core.Path.{sym, ap}
 use mathlib.Core.Bool.{Bool}
-use denote.Ref.{now}
-use borrow.Author.Needs.{needs}
-use Rattle.phase_sum_terms.specs.Workspace.{parityOf}
+use Rattle.phase_sum_terms.specs.Workspace.{parityOf, lent}
 use Rattle.comparison_meaning.specs.Reduction.{reduceEnd}
 use Rattle.comparison_types.specs.Inner.{endOf, blockedBy}
 use Rattle.comparison_types.proofs.VerdictLaws.{reduce-blocked}
+use borrow.Author.Needs.{needs}
 use Rattle.comparison.proofs.comparing.reduce_end.Statement.{statement}
 use Rattle.comparison.proofs.comparing.reduce_end.Tie as tie
 
 returns : tie.Need-returns
 returns c =
-    let start = c .before .before .before in
-    let a = start .args in
+    let a = c .before .before .before .before .before .args in
     let by = parityOf (a .pinned .by) in
-    let end = endOf (a .pinned) (now (a .sets)) (now (a .coeffs)) in (
-      sym (reduce-blocked end by (ap (λ (b : Bool). blockedBy b by) (c .if1 .taken))),
-      record { qubits = refl; sized = start .pre .1; kept = record { sets = refl; coeffs = refl } },
-    )
+    let end = endOf (a .pinned) (lent (a .ws) (a .fs) (a .sets) (a .coeffs)) in
+    record {
+      end = sym (reduce-blocked end by (ap (λ (b : Bool). blockedBy b by) (c .if1 .taken)));
+      sized = c .before .before .before .before .before .pre .1;
+    }
 
 reduce-requires : tie.Need-reduce-requires
 reduce-requires c κs = search needs
@@ -30,12 +29,24 @@ same-length c = search needs
 same-length-2 : tie.Need-same-length-2
 same-length-2 c = search needs
 
+same-length-3 : tie.Need-same-length-3
+same-length-3 c = search needs
+
+same-length-4 : tie.Need-same-length-4
+same-length-4 c = search needs
+
 returns-2 : tie.Need-returns-2
 unfolding reduceEnd
-returns-2 c =
-    let at-reduce = c .before .before .before .before in
-    let test = at-reduce .before .before .before .before .if1 .left in
-    (rw test (at-reduce .reduce .ensures .0), at-reduce .reduce .ensures .1)
+returns-2 c = record { end = rw (c .before .before .before .before .before .before .before .before .before .before .before .before .before .before .before .if1 .left) (c .before .before .before .before .before .before .before .before .reduce .ensures .end); sized = c .before .before .before .before .before .before .before .before .reduce .ensures .sized }
 
 pub reduce-end-spec : {M : Type 1} → statement M
-reduce-end-spec = tie.close (tie.spec returns reduce-requires same-length same-length-2 returns-2)
+reduce-end-spec =
+    tie.close
+    (tie.spec
+    returns
+    reduce-requires
+    same-length
+    same-length-2
+    same-length-3
+    same-length-4
+    returns-2)

@@ -11,7 +11,7 @@ use Rattle.phase_sum_meaning.specs.Sets.{firstIn, from}
 use Rattle.phase_sum_meaning.proofs.VariableLaws.{firstSuch-some, from-among}
 use Rattle.phase_sum_terms.proofs.Words.{shifted-one}
 use Rattle.comparison_meaning.specs.Verdict.{blockedInput}
-use Rattle.comparison_types.specs.Inner.{foundOf}
+use Rattle.phase_sum_terms.specs.Workspace.{foundOf}
 use Rattle.comparison_types.proofs.VerdictLaws.{lowest-below}
 use Rattle.comparison_judging.proofs.judging.blocked_input.Statement.{statement}
 use Rattle.comparison_judging.proofs.judging.blocked_input.Tie as tie

@@ -1,9 +1,11 @@
--- `comparison::judging::judge` meets its contract, by its cases: blocked, variables left, none left.
+-- `comparison_judging::judging::judge` meets its contract, by its cases: blocked, variables left, none left.
 -- Assumes nothing.
+use native.Mathlib.Omega.{arith}
 use mathlib.Core.List.{[]}
-use borrow.Author.Needs.{needs}
+use Rattle.phase_sum_terms.specs.Workspace.{slices}
 use Rattle.comparison_meaning.specs.Verdict.{judge, searched}
 use Rattle.comparison_types.proofs.VerdictLaws.{members-left, members-empty}
+use borrow.Author.Needs.{needs}
 use Rattle.comparison_judging.proofs.judging.judge.Statement.{statement}
 use Rattle.comparison_judging.proofs.judging.judge.Tie as tie
 
@@ -15,30 +17,25 @@ outcome-requires c κs = search needs
 
 returns : tie.Need-returns
 unfolding judge
-returns c =
-    let a = c .before .before .before .before .before .before .before .args in
-    rw (c .before .before .if1 .taken, ← c .before .blocked-input .ensures)
-    (c .outcome .ensures [] [] (a .end .by))
+returns c ws fs =
+    rw (c .before .before .if1 .taken, ← c .before .blocked-input .ensures) (c .outcome .ensures (slices ws fs [] []) (c .before .before .before .before .before .before .before .before .args .end .by))
 
 outcome-requires-2 : tie.Need-outcome-requires-2
 outcome-requires-2 c κs = search needs
 
 returns-2 : tie.Need-returns-2
 unfolding judge
-returns-2 c =
-    let a = c .before .before .before .before .before .before .before .before .args in
-    rw (c .before .before .before .if1 .left, members-left (a .end .state .live) (search needs) (c .before .if2 .taken))
-    (c .outcome2 .ensures [] [] (a .end .by))
+returns-2 c ws fs =
+    rw (c .before .before .before .if1 .left, members-left (c .before .before .before .before .before .before .before .before .before .args .end .sum .live) (omega arith) (c .before .if2 .taken))
+    (c .outcome2 .ensures (slices ws fs [] []) (c .before .before .before .before .before .before .before .before .before .args .end .by))
 
 searched-requires : tie.Need-searched-requires
 searched-requires c κs = search needs
 
 returns-3 : tie.Need-returns-3
 unfolding judge searched
-returns-3 c =
-    let a = c .before .before .before .before .before .before .before .before .args in
-    rw (c .before .before .before .if1 .left, members-empty (a .end .state .live) (c .before .if2 .left))
-    (c .searched .ensures (a .end .by))
+returns-3 c ws fs =
+    rw (c .before .before .before .if1 .left, members-empty (c .before .before .before .before .before .before .before .before .before .args .end .sum .live) (c .before .if2 .left)) (c .searched .ensures ws fs (c .before .before .before .before .before .before .before .before .before .args .end .by))
 
 pub judge-spec : {M : Type 1} → statement M
 judge-spec =

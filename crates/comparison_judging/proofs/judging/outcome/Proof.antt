@@ -3,15 +3,15 @@
 use native.Mathlib.Omega.{arith}
 use lib.Count.{ones-le}
 use borrow.Author.Needs.{needs}
-use Rattle.comparison_types.proofs.Members.{length-members}
+use Rattle.phase_sum_terms.proofs.Members.{length-members}
 use Rattle.comparison_judging.proofs.judging.outcome.Statement.{statement}
 use Rattle.comparison_judging.proofs.judging.outcome.Tie as tie
 
 cast-t7 : tie.Need-cast-t7
-cast-t7 c = omega (arith, ones-le 64 (c .before .before .args .state .live) (search needs))
+cast-t7 c = omega (arith, ones-le 64 (c .before .args .sum .live) (search needs))
 
 returns : tie.Need-returns
-returns c ss cs by = rw (length-members (c .before .before .args .state .live) (search needs))
+returns c l by = rw (length-members (c .before .args .sum .live) (search needs))
 
 pub outcome-spec : {M : Type 1} → statement M
 outcome-spec = tie.close (tie.spec cast-t7 returns)

@@ -1,7 +1,7 @@
--- `comparison::pinning::mismatch` meets its contract: input q is the set of variable q alone.
+-- `comparison_reducing::pinning::mismatch` meets its contract: input q is the set of variable q alone.
 -- Assumes nothing.
-use borrow.Author.Needs.{needs}
 use Rattle.comparison_types.proofs.PinLaws.{with-input}
+use borrow.Author.Needs.{needs}
 use Rattle.comparison_reducing.proofs.pinning.mismatch.Statement.{statement}
 use Rattle.comparison_reducing.proofs.pinning.mismatch.Tie as tie
 
@@ -18,10 +18,8 @@ exclusive-or-requires : tie.Need-exclusive-or-requires
 exclusive-or-requires c κs = search needs
 
 returns : tie.Need-returns
-returns c n few l =
-    let w = c .before .before .wire in
-    rw (c .exclusive-or .ensures, c .before .single .ensures, ← w .ensures n few l)
-    (with-input (w .result) (c .before .before .before .args .q))
+returns c =
+    rw (c .exclusive-or .ensures, c .before .single .ensures, ← c .before .before .wire .ensures) (with-input (c .before .before .wire .result) (c .before .before .before .before .before .args .q))
 
 pub mismatch-spec : {M : Type 1} → statement M
 mismatch-spec =

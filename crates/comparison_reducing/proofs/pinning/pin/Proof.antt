@@ -1,92 +1,76 @@
--- `comparison::pinning::pin` meets its contract. The loop's invariant: pinning has come to qubit q, not blocked, and pinning what
--- is left pins the whole. The measure is how many qubits are left.
+-- `comparison_reducing::pinning::pin` meets its contract. The loop's invariant: pinning has come to qubit q, not blocked, and pinning what is left pins the whole. The measure is how many qubits are left.
 -- Assumes nothing.
 use mathlib.Core.Path.{_≡_, refl, _∙_}
-use Prim.Native.Nat.{_-_}
+use Prim.Native.Nat.{_-_, _<_}
 use native.Mathlib.Omega.{arith}
 use lib.ListN.{length}
-use Rattle.comparison_types.proofs.PinLaws.{PinnedTo, PinnedQubit, none-pinned, more-pinned, pinned-blocked, all-pinned}
+use denote.Ref.{now}
+use Rattle.phase_sum_terms.specs.Workspace.{slices, lent}
+use Rattle.comparison_types.proofs.PinLaws.{PinnedTo, none-pinned, more-pinned, pinned-blocked, all-pinned}
 use Rattle.comparison_reducing.proofs.pinning.pin.Statement.{statement}
 use Rattle.comparison_reducing.proofs.pinning.pin.Tie as tie
 
 abbrev Inv-loop : tie.InvT-loop
-Inv-loop sets₀ coeffs₀ n end₀ q₀ sets coeffs end q =
-    (length sets ≡ length sets₀)
-    × (length coeffs ≡ length coeffs₀)
-    × PinnedTo q (end₀ .state) end sets₀ coeffs₀ sets coeffs
+Inv-loop ws₀ fs₀ sets₀ coeffs₀ end₀ q₀ ws fs sets coeffs end q =
+    PinnedTo q (end₀ .sum) end (slices ws₀ fs₀ sets₀ coeffs₀) (slices ws fs sets coeffs)
 
 abbrev μ-loop : tie.MeasureT-loop
-μ-loop sets₀ coeffs₀ n end₀ q₀ sets coeffs end q = n - q
-
--- what the call made of qubit q
-one-pinned : (c : tie.After-pin-qubit Inv-loop μ-loop) →
-    let loop = c .before .before .before .before .before .loop in
-    PinnedQubit (loop .q) (loop .end .state) (c .pin-qubit .result) (loop .sets) (loop .coeffs) (c .pin-qubit .last .1 .1 .0)
-    (c .pin-qubit .last .1 .1 .1 .0)
-one-pinned c =
-    let e = c .pin-qubit .ensures in
-    record { steps = e .0; follows = e .1 .0; pins = e .1 .1 .0; others = e .1 .1 .1 }
+μ-loop ws₀ fs₀ sets₀ coeffs₀ end₀ q₀ ws fs sets coeffs end q = length ws₀ - q
 
 loop-holds : tie.Need-loop-holds Inv-loop μ-loop
-loop-holds c =
-    let start = c .before .before in
-    (refl, refl, none-pinned (start .args .state) _ (start .pre .0) (start .pre .1))
+loop-holds c = none-pinned (c .before .before .before .before .args .sum) _ (c .before .before .before .before .pre)
 
 pin-qubit-requires : tie.Need-pin-qubit-requires Inv-loop μ-loop
-pin-qubit-requires c κs =
-    let at-loop = c .before .before .before .before in
-    let to = at-loop .loop .inv .2 in
-    (omega (arith, to .follows .qubits), to .pins, to .follows .sized)
+pin-qubit-requires c κs = let to = c .before .before .before .before .before .before .before .loop .inv in (c .before .before .before .before .before .before .loop-test .taken, to .pins, to .sized)
 
 same-length : tie.Need-same-length Inv-loop μ-loop
-same-length c =
-    let call = c .before .before .before .before .before in
-    call .pin-qubit .kept .1 .1 .0 ∙ call .before .before .before .before .before .loop .inv .0
+same-length c = c .before .before .before .before .before .before .before .before .before .pin-qubit .kept .1 .1 .1 .0 ∙ c .before .before .before .before .before .before .before .before .before .before .before .before .before .before .before .before .before .loop .inv .long .wires
 
 same-length-2 : tie.Need-same-length-2 Inv-loop μ-loop
-same-length-2 c =
-    let call = c .before .before .before .before .before in
-    call .pin-qubit .kept .1 .1 .1 .0 ∙ call .before .before .before .before .before .loop .inv .1
+same-length-2 c = c .before .before .before .before .before .before .before .before .before .pin-qubit .kept .1 .1 .1 .1 .0 ∙ c .before .before .before .before .before .before .before .before .before .before .before .before .before .before .before .before .before .loop .inv .long .flips
+
+same-length-3 : tie.Need-same-length-3 Inv-loop μ-loop
+same-length-3 c = c .before .before .before .before .before .before .before .before .before .pin-qubit .kept .1 .1 .1 .1 .1 .0 ∙ c .before .before .before .before .before .before .before .before .before .before .before .before .before .before .before .before .before .loop .inv .long .sets
+
+same-length-4 : tie.Need-same-length-4 Inv-loop μ-loop
+same-length-4 c = c .before .before .before .before .before .before .before .before .before .pin-qubit .kept .1 .1 .1 .1 .1 .1 .0 ∙ c .before .before .before .before .before .before .before .before .before .before .before .before .before .before .before .before .before .loop .inv .long .coeffs
 
 returns : tie.Need-returns Inv-loop μ-loop
 returns c =
-    let call = c .before .before .before .before .before in
-    let test = call .before .before .before .before in
-    let all =
-    pinned-blocked (test .before .loop .q) (test .before .before .before .before .args .state) (test .before .loop .end)
-    (call .pin-qubit .result) (test .loop-test .taken) (test .before .loop .inv .2) (one-pinned call) (c .if1 .taken)
-    in
-    (all .end, (all .follows, all .steps))
+    let loop = c .before .before .before .before .before .before .before .before .before .before .before .before .before .before .before .before .before .loop in
+    let here : loop .q < length (now (c .before .before .before .before .before .before .before .before .before .before .before .before .before .before .before .before .before .before .before .before .before .before .args .ws)) = omega (arith, c .before .before .before .before .before .before .before .before .before .before .before .before .before .before .before .before .loop-test .taken, loop .inv .long .wires) in
+    pinned-blocked (loop .q) (c .before .before .before .before .before .before .before .before .before .before .before .before .before .before .before .before .before .before .before .before .before .before .args .sum) (loop .end) (c .before .before .before .before .before .before .before .before .before .pin-qubit .result) here (loop .inv) (c .before .before .before .before .before .before .before .before .before .pin-qubit .ensures) (c .if1 .taken)
 
 add-q : tie.Need-add-q Inv-loop μ-loop
-add-q c = omega arith
+add-q c = omega (arith, c .before .before .before .before .before .before .before .before .before .before .before .before .before .before .before .before .loop-test .taken)
 
 loop-less : tie.Need-loop-less Inv-loop μ-loop
-loop-less c = omega arith
+loop-less c = omega (arith, c .before .before .before .before .before .before .before .before .before .before .before .before .before .before .before .before .loop-test .taken, c .before .before .before .before .before .before .before .before .before .before .before .before .before .before .before .before .before .loop .inv .long .wires)
 
 loop-again : tie.Need-loop-again Inv-loop μ-loop
 loop-again c =
-    let call = c .before .before .before .before .before in
-    let test = call .before .before .before .before in
-    let inv = test .before .loop .inv in
-    let kept = call .pin-qubit .kept .1 .1 in
-    let more =
-    more-pinned (test .before .loop .q) (test .before .before .before .before .args .state) (test .before .loop .end)
-    (call .pin-qubit .result) (test .loop-test .taken) (inv .2) (one-pinned call) (c .if1 .left)
-    in
-    (kept .0 ∙ inv .0, kept .1 .0 ∙ inv .1, more)
+    let loop = c .before .before .before .before .before .before .before .before .before .before .before .before .before .before .before .before .before .loop in
+    let kept = c .before .before .before .before .before .before .before .before .before .pin-qubit .kept .1 .1 .1 in
+    let here : loop .q < length (now (c .before .before .before .before .before .before .before .before .before .before .before .before .before .before .before .before .before .before .before .before .before .before .args .ws)) = omega (arith, c .before .before .before .before .before .before .before .before .before .before .before .before .before .before .before .before .loop-test .taken, loop .inv .long .wires) in
+    more-pinned (loop .q) (c .before .before .before .before .before .before .before .before .before .before .before .before .before .before .before .before .before .before .before .before .before .before .args .sum) (loop .end) (c .before .before .before .before .before .before .before .before .before .pin-qubit .result) here (loop .inv) (c .before .before .before .before .before .before .before .before .before .pin-qubit .ensures) (c .if1 .left)
+    (record { wires = kept .0; flips = kept .1 .0; sets = kept .1 .1 .0; coeffs = kept .1 .1 .1 .0 })
 
-same-length-3 : tie.Need-same-length-3 Inv-loop μ-loop
-same-length-3 c = c .before .loop .inv .0
+same-length-5 : tie.Need-same-length-5 Inv-loop μ-loop
+same-length-5 c = c .before .loop .inv .long .wires
 
-same-length-4 : tie.Need-same-length-4 Inv-loop μ-loop
-same-length-4 c = c .before .loop .inv .1
+same-length-6 : tie.Need-same-length-6 Inv-loop μ-loop
+same-length-6 c = c .before .loop .inv .long .flips
+
+same-length-7 : tie.Need-same-length-7 Inv-loop μ-loop
+same-length-7 c = c .before .loop .inv .long .sets
+
+same-length-8 : tie.Need-same-length-8 Inv-loop μ-loop
+same-length-8 c = c .before .loop .inv .long .coeffs
 
 returns-2 : tie.Need-returns-2 Inv-loop μ-loop
 returns-2 c =
     let loop = c .before .loop in
-    let all = all-pinned (loop .q) (c .before .before .before .before .args .state) _ (c .loop-test .left) (loop .inv .2) in
-    (all .end, (all .follows, all .steps))
+    all-pinned (loop .q) (c .before .before .before .before .before .before .args .sum) _ (omega (arith, c .loop-test .left, loop .inv .long .wires)) (loop .inv)
 
 pub pin-spec : {M : Type 1} → statement M
 pin-spec =
@@ -98,10 +82,14 @@ pin-spec =
     pin-qubit-requires
     same-length
     same-length-2
+    same-length-3
+    same-length-4
     returns
     add-q
     loop-less
     loop-again
-    same-length-3
-    same-length-4
+    same-length-5
+    same-length-6
+    same-length-7
+    same-length-8
     returns-2)

@@ -1,25 +1,18 @@
--- `comparison::pinning::pin_qubit` meets its contract: where the search finds a variable, the qubit is pinned by it; where not, the
--- mismatch decides.
+-- `comparison_reducing::pinning::pin_qubit` meets its contract: where the search finds a variable, the qubit is pinned by it; where not, the mismatch decides.
 -- Assumes nothing.
-use mathlib.Core.Path.{_≡_, sym, ap, _∙_}
-use mathlib.Core.Option.{some}
-use borrow.Author.Needs.{needs}
+use mathlib.Core.Path.{_≡_, refl, sym, ap, _∙_}
 use native.Mathlib.Omega.{arith}
-use Rattle.phase_sum_meaning.specs.Sets.{firstIn}
-use Rattle.comparison_types.specs.Inner.{members, foundOf}
+use Rattle.phase_sum_terms.specs.Workspace.{lent, foundOf}
+use Rattle.phase_sum_terms.proofs.Changing.{sized-stands}
 use Rattle.comparison_types.proofs.PinLaws.{found-below, pinned-found, pinned-free}
+use borrow.Author.Needs.{needs}
 use Rattle.comparison_reducing.proofs.pinning.pin_qubit.Statement.{statement}
 use Rattle.comparison_reducing.proofs.pinning.pin_qubit.Tie as tie
 
--- the variable that was found
-found : (c : tie.After-z) →
-    let at-mismatch = c .before .before .before in
-    firstIn (members (at-mismatch .before .before .before .before .args .state .live)) (at-mismatch .mismatch .result .set)
-    ≡ some (c .z .given .0 .0)
-found c = sym (c .before .before .lowest-in .ensures) ∙ ap foundOf (c .z .given .1)
-
 mismatch-requires : tie.Need-mismatch-requires
-mismatch-requires c κs = search needs
+mismatch-requires c κs =
+    let pre = c .before .before .before .before .before .before .pre in
+    (omega (arith, pre .0, pre .2 .few), pre .0, omega (arith, pre .0, pre .2 .flips))
 
 lowest-in-requires : tie.Need-lowest-in-requires
 lowest-in-requires c κs = search needs
@@ -28,21 +21,14 @@ enum-known-z : tie.Need-enum-known-z
 enum-known-z c = search needs
 
 rest-of-requires : tie.Need-rest-of-requires
-rest-of-requires c κs = found-below _ _ _ (found (c .before))
+rest-of-requires c κs = found-below _ _ _ (sym (c .before .before .before .lowest-in .ensures) ∙ ap foundOf (c .before .z .given .1))
 
 replace-requires : tie.Need-replace-requires
 replace-requires c κs =
-    let at-z = c .before .before .before .before in
-    (found-below _ _ _ (found at-z), at-z .before .before .before .before .before .before .before .pre .2)
+    (found-below _ _ _ (sym (c .before .before .before .before .before .before .before .before .lowest-in .ensures) ∙ ap foundOf (c .before .before .before .before .before .before .z .given .1)), sized-stands (c .before .before .before .before .before .before .before .before .before .before .before .before .before .before .before .before .pre .2))
 
-add-t18 : tie.Need-add-t18
-add-t18 c =
-    let call = c .before .before .before .before .before .before in
-    let start = call .before .before .before .before .before .before .before .before .before .before .before .before in
-    rw (call .replace .ensures .1) (omega (arith, start .pre))
-
-with-counts-requires : tie.Need-with-counts-requires
-with-counts-requires c κs = search needs
+add-pin-requires : tie.Need-add-pin-requires
+add-pin-requires c κs = let pre = c .before .before .before .before .before .before .before .before .before .before .before .before .before .before .before .before .before .before .before .before .before .before .before .before .before .pre in omega (arith, pre .0, pre .1, pre .2 .few)
 
 enum-told : tie.Need-enum-told
 enum-told c = search needs
@@ -56,34 +42,34 @@ same-length c = search needs
 same-length-2 : tie.Need-same-length-2
 same-length-2 c = search needs
 
+same-length-3 : tie.Need-same-length-3
+same-length-3 c = search needs
+
+same-length-4 : tie.Need-same-length-4
+same-length-4 c = search needs
+
 returns : tie.Need-returns
 returns c =
-    let call = c .before .before .before .before .before .before .before in
-    let at-z = call .before .before .before .before .before in
-    let at-mismatch = at-z .before .before .before in
-    let start = at-mismatch .before .before .before .before in
-    let a = start .args in
-    let rest = call .before .before .before .rest-of in
-    let kept = call .replace .kept .1 .1 .1 in
-    let p =
-    pinned-found (a .q) (at-z .z .given .0 .0) (at-mismatch .mismatch .result) (rest .result) (a .state)
-    (call .replace .result) (c .with-counts .result) (start .pre .0) (start .pre .1) (start .pre .2)
-    (at-mismatch .mismatch .ensures (a .state .n) (start .pre .2 .few) (start .pre .0)) (found at-z) (rest .ensures)
-    (call .replace .ensures .0) (call .replace .ensures .1) (kept .0) (kept .1 .0) (c .with-counts .ensures)
-    in
-    (p .steps, (p .follows, (p .pins, p .others)))
+    let a = c .before .before .before .before .before .before .before .before .before .before .before .before .before .before .before .before .before .before .before .before .before .before .before .before .before .before .args in
+    let pre = c .before .before .before .before .before .before .before .before .before .before .before .before .before .before .before .before .before .before .before .before .before .before .before .before .before .before .pre in
+    let kept = c .before .before .before .before .before .before .before .before .before .replace .kept .1 .1 .1 in
+    pinned-found (a .q) _ (c .before .before .before .before .before .before .before .before .before .before .before .before .before .before .before .before .before .before .before .mismatch .result) (c .before .before .before .before .before .before .before .before .before .before .before .before .before .before .rest-of .result) (a .sum) (a .counts) _ (c .before .before .before .before .before .before .before .before .before .replace .result) (pre .0) (pre .1)
+    (pre .2) (c .before .before .before .before .before .before .before .before .before .before .before .before .before .before .before .before .before .before .before .mismatch .ensures) (sym (c .before .before .before .before .before .before .before .before .before .before .before .before .before .before .before .before .before .before .lowest-in .ensures) ∙ ap foundOf (c .before .before .before .before .before .before .before .before .before .before .before .before .before .before .before .before .z .given .1)) (c .before .before .before .before .before .before .before .before .before .before .before .before .before .before .rest-of .ensures)
+    (c .before .before .before .before .before .before .before .before .before .replace .ensures) (record { wires = kept .0; flips = kept .1 .0; sets = kept .1 .1 .0; coeffs = kept .1 .1 .1 .0 })
+    (c .add-pin .ensures)
+
+same-length-5 : tie.Need-same-length-5
+same-length-5 c = search needs
+
+same-length-6 : tie.Need-same-length-6
+same-length-6 c = search needs
 
 returns-2 : tie.Need-returns-2
 returns-2 c =
-    let at-mismatch = c .before .before .before .before in
-    let start = at-mismatch .before .before .before .before in
-    let a = start .args in
-    let p =
-    pinned-free (a .q) (at-mismatch .mismatch .result) (c .is-zero .result) (a .state) (start .pre .1) (start .pre .2)
-    (at-mismatch .mismatch .ensures (a .state .n) (start .pre .2 .few) (start .pre .0))
+    let a = c .before .before .before .before .before .before .before .before .before .before .before .args in
+    let pre = c .before .before .before .before .before .before .before .before .before .before .before .pre in
+    pinned-free (a .q) (c .before .before .before .before .mismatch .result) (c .is-zero .result) (a .sum) (a .counts) (pre .1) (pre .2) (c .before .before .before .before .mismatch .ensures)
     (sym (c .before .before .before .lowest-in .ensures) ∙ ap foundOf (c .before .enum-told .given .1)) (c .is-zero .ensures)
-    in
-    (p .steps, (p .follows, (p .pins, p .others)))
 
 pub pin-qubit-spec : {M : Type 1} → statement M
 pin-qubit-spec =
@@ -94,11 +80,14 @@ pin-qubit-spec =
     enum-known-z
     rest-of-requires
     replace-requires
-    add-t18
-    with-counts-requires
+    add-pin-requires
     enum-told
     is-zero-requires
     same-length
     same-length-2
+    same-length-3
+    same-length-4
     returns
+    same-length-5
+    same-length-6
     returns-2)

@@ -1,8 +1,8 @@
--- `comparison::reducing::ready` meets its contract: the lowest variable left that the mask of the odd terms leaves out.
+-- `comparison_reducing::reducing::ready` meets its contract: the mask of the odd terms tells the ready variables.
 -- Assumes nothing.
 use mathlib.Core.Path.{_∙_}
-use borrow.Author.Needs.{needs}
 use Rattle.comparison_types.proofs.StepCases.{ready-by-mask}
+use borrow.Author.Needs.{needs}
 use Rattle.comparison_reducing.proofs.reducing.ready.Statement.{statement}
 use Rattle.comparison_reducing.proofs.reducing.ready.Tie as tie
 

@@ -1,22 +1,42 @@
--- `comparison::reducing::step` meets its contract: the tests on C and L tell the definition's three kinds of step apart.
+-- `comparison_reducing::reducing::step` meets its contract: where the search finds a variable of L, the step is at it; where not, it is blocked, or none is asked for.
 -- Assumes nothing.
-use mathlib.Core.Path.{sym}
-use mathlib.Core.Bool.{true≢false}
-use mathlib.Core.Logic.{⊎-elim}
+use mathlib.Core.Path.{_≡_, refl, sym, ap, _∙_}
+use mathlib.Core.Bool.{true, false, true≢false}
+use native.Mathlib.Omega.{arith}
+use Rattle.phase_sum_terms.specs.Workspace.{lent, sumOf, foundOf}
+use Rattle.phase_sum_terms.proofs.Changing.{sized-stands}
+use Rattle.comparison_types.specs.Inner.{countsOf}
+use Rattle.comparison_types.proofs.PinLaws.{found-below}
+use Rattle.comparison_types.proofs.StepCases.{found-left, step-chosen, step-unchosen, step-stuck}
 use borrow.Author.Needs.{needs}
-use Rattle.comparison_types.specs.Inner.{sumOf, countsOf}
-use Rattle.comparison_types.proofs.StepCases.{kind-turn, kind-sum, kind-constraint, turn-next, sum-next}
 use Rattle.comparison_reducing.proofs.reducing.step.Statement.{statement}
 use Rattle.comparison_reducing.proofs.reducing.step.Tie as tie
 
 halves-of-requires : tie.Need-halves-of-requires
-halves-of-requires c κs = search needs
+halves-of-requires c κs = let stands = sized-stands (c .before .before .before .before .before .before .before .pre .3) in (c .before .before .before .before .before .before .before .pre .1, stands .sets, stands .coeffs)
 
-turn-step-requires : tie.Need-turn-step-requires
-turn-step-requires c κs = search needs
+without-requires : tie.Need-without-requires
+without-requires c κs = search needs
 
-goes-requires : tie.Need-goes-requires
-goes-requires c κs = search needs
+lowest-in-requires : tie.Need-lowest-in-requires
+lowest-in-requires c κs = search needs
+
+enum-known-z : tie.Need-enum-known-z
+enum-known-z c = search needs
+
+step-at-requires : tie.Need-step-at-requires
+step-at-requires c κs =
+    let pre = c .before .before .before .before .before .before .before .before .before .before .before .before .before .before .before .before .before .pre in
+    (pre .0, pre .1, found-below _ _ _ (sym (c .before .before .before .before .before .before .before .lowest-in .ensures) ∙ ap foundOf (c .before .before .before .before .before .z .given .1)), pre .2, pre .3)
+
+enum-told : tie.Need-enum-told
+enum-told c = search needs
+
+constrains-requires : tie.Need-constrains-requires
+constrains-requires c κs = search needs
+
+constraint-of-requires : tie.Need-constraint-of-requires
+constraint-of-requires c κs = search needs
 
 same-length : tie.Need-same-length
 same-length c = search needs
@@ -26,34 +46,22 @@ same-length-2 c = search needs
 
 returns : tie.Need-returns
 returns c =
-    let at-step = c .before .before .before .before .before in
-    let at-test = at-step .before .before .before in
-    let at-halves = at-test .before in
-    let a = at-halves .before .before .before .before .before .before .args in
-    let halves = at-halves .halves-of .result in
-    rw
-    (c .goes .ensures) (
-      turn-next
-          (sumOf (a .state) (a .sets .now) (a .coeffs .now))
-          _
-          (countsOf (a .state))
-          _
-          (a .y)
-          (halves .c)
-          (halves .l)
-          (at-halves .halves-of .ensures .0)
-          (at-halves .halves-of .ensures .1)
-          (kind-turn (halves .c) (halves .l) (at-test .if1 .taken))
-          (at-step .turn-step .ensures .0)
-          (at-step .turn-step .ensures .1 .0),
-      (λ b. absurd (true≢false (sym b)), at-step .turn-step .ensures .1 .1),
-    )
+    let a = c .before .before .before .before .before .before .before .before .before .before .before .before .before .before .before .args in
+    let halves = c .before .before .before .before .before .before .before .halves-of in
+    let s = sumOf (a .sum) (lent (a .ws) (a .fs) (a .sets) (a .coeffs)) in
+    let found = found-left s (a .sum .live) (a .y) (halves .result .l) _ (c .before .before .before .before .before .lowest-in .result) refl
+    (c .before .before .before .before .before .before .without .ensures) (c .before .before .before .before .before .lowest-in .ensures) in
+    let none-left = found ∙ ap foundOf (c .before .before .before .enum-told .given .1) in
+    let kind = c .before .before .constrains .ensures .0 (c .before .if1 .taken) in
+    let stuck = step-stuck (a .y) (halves .result .c) (halves .result .l) s (countsOf (a .counts)) kind none-left in
+    record {
+      next = rw (c .constraint-of .ensures, ← halves .ensures .0, ← halves .ensures .1) (sym stuck);
+      stays = λ b. (refl, refl, refl);
+      sized = c .before .before .before .before .before .before .before .before .before .before .before .before .before .before .before .pre .3;
+    }
 
-sum-step-requires : tie.Need-sum-step-requires
-sum-step-requires c κs = search needs
-
-goes-requires-2 : tie.Need-goes-requires-2
-goes-requires-2 c κs = search needs
+step-at-requires-2 : tie.Need-step-at-requires-2
+step-at-requires-2 c κs = let pre = c .before .before .before .before .before .before .before .before .before .before .before .before .before .before .before .before .before .before .pre in (pre .0, pre .1, pre .1, pre .2, pre .3)
 
 same-length-3 : tie.Need-same-length-3
 same-length-3 c = search needs
@@ -61,73 +69,79 @@ same-length-3 c = search needs
 same-length-4 : tie.Need-same-length-4
 same-length-4 c = search needs
 
-returns-2 : tie.Need-returns-2
-returns-2 c =
-    let at-step = c .before .before .before .before .before in
-    let at-test = at-step .before .before .before in
-    let at-halves = at-test .before .before .before in
-    let a = at-halves .before .before .before .before .before .before .args in
-    let halves = at-halves .halves-of .result in
-    rw
-    (c .goes2 .ensures) (
-      sum-next
-          (sumOf (a .state) (a .sets .now) (a .coeffs .now))
-          _
-          (countsOf (a .state))
-          _
-          (a .y)
-          (halves .c)
-          (halves .l)
-          (at-halves .halves-of .ensures .0)
-          (at-halves .halves-of .ensures .1)
-          (kind-sum (halves .c) (halves .l) (at-test .before .if2 .taken) (at-test .if3 .taken))
-          (at-step .sum-step .ensures .0)
-          (at-step .sum-step .ensures .1 .0),
-      (λ b. absurd (true≢false (sym b)), at-step .sum-step .ensures .1 .1),
-    )
-
-constrain-requires : tie.Need-constrain-requires
-constrain-requires c κs = search needs
-
 same-length-5 : tie.Need-same-length-5
 same-length-5 c = search needs
 
 same-length-6 : tie.Need-same-length-6
 same-length-6 c = search needs
 
+returns-2 : tie.Need-returns-2
+returns-2 c =
+    let a = c .before .before .before .before .before .before .before .before .before .before .before .before .before .before .before .before .before .before .before .before .before .before .before .before .before .before .args in
+    let halves = c .before .before .before .before .before .before .before .before .before .before .before .before .before .before .before .before .before .before .halves-of in
+    let s = sumOf (a .sum) (lent (a .ws) (a .fs) (a .sets) (a .coeffs)) in
+    let found = found-left s (a .sum .live) (a .y) (halves .result .l) _ (c .before .before .before .before .before .before .before .before .before .before .before .before .before .before .before .before .lowest-in .result) refl
+    (c .before .before .before .before .before .before .before .before .before .before .before .before .before .before .before .before .before .without .ensures) (c .before .before .before .before .before .before .before .before .before .before .before .before .before .before .before .before .lowest-in .ensures) in
+    let chosen =
+    step-chosen (a .y) (halves .result .c) (halves .result .l) s (countsOf (a .counts)) _
+    (found ∙ ap foundOf (c .before .before .before .before .before .before .before .before .before .before .before .before .before .before .z .given .1))
+    in
+    let to = c .before .before .before .before .before .before .before .before .step-at .ensures in
+    record {
+      next = rw (to .free, ← halves .ensures .0, ← halves .ensures .1) (to .next ∙ chosen);
+      stays = λ b. absurd (true≢false (sym b ∙ to .free));
+      sized = to .sized;
+    }
+
+same-length-7 : tie.Need-same-length-7
+same-length-7 c = search needs
+
+same-length-8 : tie.Need-same-length-8
+same-length-8 c = search needs
+
+same-length-9 : tie.Need-same-length-9
+same-length-9 c = search needs
+
+same-length-10 : tie.Need-same-length-10
+same-length-10 c = search needs
+
 returns-3 : tie.Need-returns-3
 returns-3 c =
-    let at-step = c .before .before .before .before in
-    let at-test = at-step .before .before .before in
-    let at-halves = at-test .before .before in
-    let halves = at-halves .halves-of .result in
-    let kind =
-    kind-constraint
-    (halves .c)
-    (halves .l)
-    (at-test .before .if1 .left)
-    (λ nil empty. ⊎-elim (λ w. w .1 .left empty) (λ w. w .left nil) (at-test .if2 .came))
-    in (
-      rw (← at-halves .halves-of .ensures .0, ← at-halves .halves-of .ensures .1) (at-step .constrain .ensures .0 kind),
-      at-step .constrain .ensures .1,
-    )
+    let a = c .before .before .before .before .before .before .before .before .before .before .before .before .before .before .before .before .before .before .before .before .before .before .before .before .before .before .before .args in
+    let halves = c .before .before .before .before .before .before .before .before .before .before .before .before .before .before .before .before .before .before .before .halves-of in
+    let s = sumOf (a .sum) (lent (a .ws) (a .fs) (a .sets) (a .coeffs)) in
+    let other = c .before .before .before .before .before .before .before .before .before .before .before .before .before .before .constrains .ensures .1 (c .before .before .before .before .before .before .before .before .before .before .before .before .before .if1 .left) in
+    let any = step-unchosen (a .y) (halves .result .c) (halves .result .l) s (countsOf (a .counts)) (a .y) other in
+    let to = c .before .before .before .before .before .before .before .before .step-at2 .ensures in
+    record {
+      next = rw (to .free, ← halves .ensures .0, ← halves .ensures .1) (to .next ∙ any);
+      stays = λ b. absurd (true≢false (sym b ∙ to .free));
+      sized = to .sized;
+    }
 
 pub step-spec : {M : Type 1} → statement M
 step-spec =
     tie.close
     (tie.spec
     halves-of-requires
-    turn-step-requires
-    goes-requires
+    without-requires
+    lowest-in-requires
+    enum-known-z
+    step-at-requires
+    enum-told
+    constrains-requires
+    constraint-of-requires
     same-length
     same-length-2
     returns
-    sum-step-requires
-    goes-requires-2
+    step-at-requires-2
     same-length-3
     same-length-4
-    returns-2
-    constrain-requires
     same-length-5
     same-length-6
+    returns-2
+    same-length-7
+    same-length-8
+    same-length-9
+    same-length-10
     returns-3)

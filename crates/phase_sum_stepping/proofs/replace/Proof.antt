@@ -1,0 +1,64 @@
+-- `phase_sum_stepping::replace` meets its contract: the wires and the terms with z replaced are stored, and the terms merged.
+-- Assumes nothing.
+use native.Mathlib.Omega.{arith}
+use Rattle.phase_sum_meaning.specs.Parity.{of, replaceIn}
+use Rattle.phase_sum_meaning.specs.Stepping.{replace}
+use Rattle.phase_sum_terms.specs.Workspace.{parityOf, lent, sumOf}
+use Rattle.phase_sum_terms.proofs.Members.{members-without}
+use Rattle.phase_sum_terms.proofs.Changing.{became}
+use Rattle.phase_sum_terms.proofs.Passes.{rebuilt}
+use borrow.Author.Needs.{needs}
+use Rattle.phase_sum_stepping.proofs.replace.Statement.{statement}
+use Rattle.phase_sum_stepping.proofs.replace.Tie as tie
+
+replace-in-wires-requires : tie.Need-replace-in-wires-requires
+replace-in-wires-requires c κs = search needs
+
+replace-unmerged-requires : tie.Need-replace-unmerged-requires
+replace-unmerged-requires c κs = search needs
+
+without-requires : tie.Need-without-requires
+without-requires c κs = search needs
+
+canonical-requires : tie.Need-canonical-requires
+canonical-requires c κs = search needs
+
+same-length : tie.Need-same-length
+same-length c = search needs
+
+same-length-2 : tie.Need-same-length-2
+same-length-2 c = search needs
+
+same-length-3 : tie.Need-same-length-3
+same-length-3 c = search needs
+
+same-length-4 : tie.Need-same-length-4
+same-length-4 c = search needs
+
+returns : tie.Need-returns
+unfolding replace
+returns c =
+    let a = c .before .before .before .before .before .before .before .before .before .before .before .before .before .before .before .before .before .before .before .before .before .before .before .before .before .before .before .args in
+    let stands = c .before .before .before .before .before .before .before .before .before .before .before .before .before .before .before .before .before .before .before .before .before .before .before .before .before .before .before .pre .1 in
+    let p = parityOf (a .p) in
+    let l = lent (a .ws) (a .fs) (a .sets) (a .coeffs) in
+    let sent = c .before .before .before .before .before .before .before .before .before .before .before .before .replace-unmerged .ensures in
+    became (replace (a .z) p (sumOf (a .sum) l)) _ l _
+    (rebuilt (λ u. replaceIn (a .z) p (of u)) (a .sum .phase) (stands .sets) (stands .coeffs) (sent .0) (sent .1)
+    (c .before .before .before .before .canonical .ensures))
+    (c .before .before .before .before .before .before .before .before .before .before .before .before .before .before .before .before .before .before .before .replace-in-wires .ensures)
+    (rw (c .before .before .before .before .before .before .before .without .ensures) (members-without (a .sum .live) (a .z)))
+
+pub replace-spec : {M : Type 1} → statement M
+replace-spec =
+    tie.close
+    (tie.spec
+    replace-in-wires-requires
+    replace-unmerged-requires
+    without-requires
+    canonical-requires
+    same-length
+    same-length-2
+    same-length-3
+    same-length-4
+    returns)

@@ -1,0 +1,25 @@
+-- `phase_sum_terms::wires::wire` meets its contract.
+-- Assumes nothing.
+use denote.Ref.{now}
+use Rattle.phase_sum_terms.proofs.WireLaws.{zip-at}
+use borrow.Author.Needs.{needs}
+use Rattle.phase_sum_terms.proofs.wires.wire.Statement.{statement}
+use Rattle.phase_sum_terms.proofs.wires.wire.Tie as tie
+
+mul-t4 : tie.Need-mul-t4
+mul-t4 c = search needs
+
+shared-slice-read-t6 : tie.Need-shared-slice-read-t6
+shared-slice-read-t6 c = search needs
+
+shared-slice-read-t8 : tie.Need-shared-slice-read-t8
+shared-slice-read-t8 c = search needs
+
+returns : tie.Need-returns
+returns c =
+    let at-start = c .before .before in
+    let a = at-start .args in
+    zip-at (now (a .ws)) (now (a .fs)) (a .q) (at-start .pre .0) (at-start .pre .1)
+
+pub wire-spec : {M : Type 1} → statement M
+wire-spec = tie.close (tie.spec mul-t4 shared-slice-read-t6 shared-slice-read-t8 returns)
