@@ -39,9 +39,9 @@ pow-injective i j e = go (decLt i j) (decLt j i)
     go (no less) (no more) = omega arith
 
 -- the first list followed by the second's inverse runs the inverse on the first list's column
-column-joined : (first second : List Gate) (v : ℕ) → column (first ++ inverseList second) v ≡ run (inverseList second) (column first v)
+column-miter : (first second : List Gate) (v : ℕ) → column (first ++ inverseList second) v ≡ run (inverseList second) (column first v)
 unfolding column
-column-joined first second v = run-append first (inverseList second) (basis v)
+column-miter first second v = run-append first (inverseList second) (basis v)
 
 -- states that are equal but for powers of ω and √2 are so after a list too
 run-scaled : (gs : List Gate) (j p q : ℕ) (φ ψ : State) → ((w : ℕ) → ω^ j (√2^ p (φ w)) ≡ √2^ q (ψ w)) →
@@ -63,7 +63,7 @@ pub fits-turned : (n : ℕ) (first second : List Gate) (v j : ℕ) → AllWithin
     Fits n j first second v → ω^ j (column (first ++ inverseList second) v v) ≡ √2^ (hGates first + hGates second) 1ω
 unfolding √2^ column
 fits-turned n first second v j l r b fits =
-    rw column-joined
+    rw column-miter
     (cancel-√2^ j 0 (hGates first + hGates second) (hGates second) (run (inverseList second) (column first v) v) 1ω
     (rw (zero-add, add-assoc, √2^-add (hGates first)) (inverted ∙ rw (undo n second (basis v) r, basis-same))))
   where
@@ -84,26 +84,26 @@ pub turned-fits : (n : ℕ) (first second : List Gate) (v j : ℕ) → AllWithin
 unfolding ω^ √2^ column
 turned-fits n first second v j l r b e w below =
     cancel-√2^ j (hGates second) (hGates first) (hGates second) (column first v w) (column second v w)
-    (rw (column-joined, redo n second (column first v) r) at
-    (run-scaled second j 0 (hGates first + hGates second) (column joined v) (basis v) (λ u. everywhere u (ℕ-discrete u v)) w))
+    (rw (column-miter, redo n second (column first v) r) at
+    (run-scaled second j 0 (hGates first + hGates second) (column miter v) (basis v) (λ u. everywhere u (ℕ-discrete u v)) w))
   where
-    joined : List Gate
-    joined = first ++ inverseList second
+    miter : List Gate
+    miter = first ++ inverseList second
 
-    within : AllWithin n joined
+    within : AllWithin n miter
     within = within-append n first (inverseList second) l (within-inverse n second r)
 
-    sizes : total n (λ u. norm (column joined v u)) ≡ norm (column joined v v)
+    sizes : total n (λ u. norm (column miter v u)) ≡ norm (column miter v v)
     sizes =
-        column-norm n joined v within b
+        column-norm n miter v within b
         ∙ rw (tally-append, hGates-inverse) (sym (norm-power (hGates first + hGates second) 0))
         ∙ ap norm (sym e)
-        ∙ norm-ω^ j (column joined v v)
+        ∙ norm-ω^ j (column miter v v)
 
-    everywhere : (u : ℕ) → Dec (u ≡ v) → ω^ j (column joined v u) ≡ √2^ (hGates first + hGates second) (basis v u)
+    everywhere : (u : ℕ) → Dec (u ≡ v) → ω^ j (column miter v u) ≡ √2^ (hGates first + hGates second) (basis v u)
     everywhere u (yes at) = rw (at, basis-same) e
     everywhere u (no off) =
-        rw (only-at n (column joined v) v b (λ x above. column-outside n joined v x within b above) sizes u off, basis-other v u off)
+        rw (only-at n (column miter v) v b (λ x above. column-outside n miter v x within b above) sizes u off, basis-other v u off)
         (simp (√2^-0ω, ω^-0ω))
 
 -- where the diagonal amplitude is ω^k, but for √2 once for each H gate, ω^(8 − k) carries column v

@@ -9,9 +9,9 @@ mod pairs;
 mod rows;
 
 use crate::lines::Lines;
-use libc::STDIN_FILENO;
 use calls_text::plus;
 use calls_text::print;
+use libc::STDIN_FILENO;
 
 // More input, and the rows that end in it; or that the input has ended.
 fn read_some(line: &mut [u8], lines: Lines) -> Lines {

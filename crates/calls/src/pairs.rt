@@ -1,12 +1,12 @@
 // Rows of calls on a pair. The numbers say how many words and bytes of the workspaces are lent, and with what all their places begin.
-use comparison::Answer;
-use comparison::Outcome;
 use calls_text::are_below;
 use calls_text::are_numbers;
 use calls_text::byte;
 use calls_text::number;
 use calls_text::print;
 use calls_text::workspaces;
+use comparison::Answer;
+use comparison::Outcome;
 
 // A verdict's word, by its number.
 fn verdict(number: u8) {

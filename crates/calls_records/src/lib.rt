@@ -5,9 +5,9 @@ mod names;
 mod readers;
 mod writers;
 
-pub use lists::bytes_of;
 use calls_text::Bytes;
 use calls_text::print;
+pub use lists::bytes_of;
 
 // The bytes that a row lends at most.
 pub const MOST_BYTES: usize = 2048;

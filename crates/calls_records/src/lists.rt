@@ -1,15 +1,15 @@
 // Bytes that a row lends: in hexadecimal, or a list of gates on n qubits, which is built by start and add. `2:h0 t1 c01` is H on qubit 0, T
 // on 1 and CX from 0 to 1: for each gate a letter, a qubit in hexadecimal and, for a gate on two qubits, the second; one space between two.
 // The letters: x y z s t h, r and u for the inverses of S and T, c for CX, k for CZ, w for SWAP.
+use calls_text::Bytes;
+use calls_text::NO_DIGIT;
+use calls_text::byte;
+use calls_text::digit;
 use record_format::NO_QUBIT;
 use record_format::gate;
 use records::Written;
 use records::add;
 use records::start;
-use calls_text::Bytes;
-use calls_text::NO_DIGIT;
-use calls_text::byte;
-use calls_text::digit;
 use std::num::wrapping_add_usize;
 
 // No kind of gate.

@@ -1,12 +1,12 @@
 // Rows of calls that write. The first number says how many bytes of the buffer are lent; the whole buffer is printed afterwards.
 use crate::names;
 use crate::readers::byte_at;
-use records::Report;
-use records::Written;
 use calls_text::are_below;
 use calls_text::are_numbers;
 use calls_text::number;
 use calls_text::print;
+use records::Report;
+use records::Written;
 
 // Number k of a text of numbers, as two bytes.
 fn pair_at(numbers: &[u8], k: usize) -> u16 {

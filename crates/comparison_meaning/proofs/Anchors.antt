@@ -14,10 +14,10 @@ use Rattle.comparison_meaning.specs.Verdict.{Verdict, equal, different, 
 use Rattle.comparison_meaning.specs.Table.{AllRight, rows, choices}
 
 -- a verdict's number tells it
-pub number-tells : (v : Verdict) → numbered (number v) ≡ v
-number-tells equal = refl
-number-tells different = refl
-number-tells undecided = refl
+pub verdict-number-tells : (v : Verdict) → numbered (number v) ≡ v
+verdict-number-tells equal = refl
+verdict-number-tells different = refl
+verdict-number-tells undecided = refl
 
 -- the comparison gives document 01's results
 pub p-rows : AllRight rows

@@ -17,7 +17,7 @@ use Rattle.phase_sum_meaning.specs.Phase.{Term, Phase, sumAt, phaseAt, minus, a
 use Rattle.phase_sum_meaning.specs.Building.{PathSum, initial, setWire, withPhase, hadamard, gate, gatesFrom, build}
 use Rattle.phase_sum_meaning.specs.Stepping.{replace, firstReady, takeOut, turned, Kind, sum, turn, constraint, kindOf, constrained}
 use Rattle.comparison_meaning.specs.Reduction.{Counts, End, blocks, isZero, mismatch, addPin, pinFrom, Next, goes, stuck, stepWith, reduceFrom, reduceEnd, reduced}
-use Rattle.comparison_meaning.specs.Verdict.{candidates, left, firstDiffering, searched, judge, compare, joined}
+use Rattle.comparison_meaning.specs.Verdict.{candidates, left, firstDiffering, searched, judge, compare, miter}
 
 -- two phases with the same terms; their constants may differ
 data SameTerms : Phase → Phase → Type 0 where
@@ -215,8 +215,8 @@ alike-judged scratch n e f (ends {b = none} (alike r)) = go (eqb (left e) 0) (eq
 -- Y without its factor gives the same verdict, inputs and counts
 pub bare-y :
     (scratch n : ℕ) (first second : List Gate)
-    → judge scratch n (reduced scratch n (gatesFrom 0 n (joined first second) (initial scratch n))) ≡ compare scratch n first second
+    → judge scratch n (reduced scratch n (gatesFrom 0 n (miter first second) (initial scratch n))) ≡ compare scratch n first second
 unfolding compare build
 bare-y scratch n first second =
     alike-judged scratch n _ _
-    (alike-reduced (alike-pins scratch n 0 _ _ _ (alike-gates 0 2 n (joined first second) (alike-self (initial scratch n)))))
+    (alike-reduced (alike-pins scratch n 0 _ _ _ (alike-gates 0 2 n (miter first second) (alike-self (initial scratch n)))))

@@ -4,7 +4,7 @@
 use Prim.Native.Nat.{ℕ}
 use mathlib.Core.List.{List}
 use Rattle.record_format.specs.Gate.{Gate}
-use Rattle.record_format.specs.Promises.{Sound}
+use Rattle.record_format.specs.Promises.{WellFormed}
 use Rattle.record_format.proofs.Theorems.{accepted-is-sound}
 use Rattle.phase_sum_meaning.proofs.Roominess.{room-fits}
 use Rattle.comparison_meaning.specs.Demands.{Accepted, PairFits, Demands}
@@ -12,11 +12,11 @@ use Rattle.comparison_meaning.proofs.Theorems.{demands}
 
 module _ (s t : List ℕ) (n : ℕ) (first second : List Gate) (pair : Accepted s t n first second) where
   -- the first record is sound
-  sound-first : Sound s n first
+  sound-first : WellFormed s n first
   sound-first = accepted-is-sound s n first (pair .reads-first)
 
   -- and the second
-  sound-second : Sound t n second
+  sound-second : WellFormed t n second
   sound-second = accepted-is-sound t n second (pair .reads-second)
 
   -- all demands

@@ -16,11 +16,11 @@ use Rattle.phase_sum_meaning.specs.Building.{PathSum, build}
 use Rattle.phase_sum_meaning.specs.Stepping.{replace, takeOut, turned, constrained, Kind, sum, turn, constraint, kindOf}
 use Rattle.comparison_meaning.specs.Reduction.{Counts, counts, addPin, End, blocks, mismatch}
 use Rattle.comparison_meaning.specs.Steps.{Ready, cOf, lOf, Step, sums, turns, joins, Blocked}
-use Rattle.comparison_meaning.specs.Verdict.{Verdict, undecided, Result, result, left, blockedInput, judge, searched, joined, pinnedOf, endOf, compare}
+use Rattle.comparison_meaning.specs.Verdict.{Verdict, undecided, Result, result, left, blockedInput, judge, searched, miter, pinnedOf, endOf, compare}
 use Rattle.comparison_meaning.specs.Course.{Lowest, PathVariable, Pins, every-qubit, pins, agrees, unpinnable, TakesLowest, Reduces, none-ready, obstructed, steps-on, Continues, further, halted, Stuck, Judged, blocked, unready, unsized, found, same, Shown, shows, Course}
 use Rattle.comparison_meaning.proofs.Pinning.{pins-course}
 use Rattle.comparison_meaning.proofs.Outcomes.{continues, reduced-stops, judges, reason, judged-undecided}
-use Rattle.comparison_meaning.proofs.Reached.{within-joined, pin-end}
+use Rattle.comparison_meaning.proofs.Reached.{within-miter, pin-end}
 
 -- the comparison's result is reached by the course
 pub course-of :
@@ -30,7 +30,7 @@ course-of scratch n first second l r =
     record {
       pinning = pinnedOf scratch n first second;
       end = endOf scratch n first second;
-      pins = pins-course scratch n (joined first second) (within-joined scratch n first second l r);
+      pins = pins-course scratch n (miter first second) (within-miter scratch n first second l r);
       steps = continues n (pinnedOf scratch n first second) (pin-end scratch n first second l r .good);
       shown = judges scratch n (endOf scratch n first second);
     }

@@ -22,33 +22,33 @@ use Rattle.phase_sum_meaning.specs.Room.{roomFor, room}
 use Rattle.phase_sum_meaning.proofs.Wellformed.{live-build}
 use Rattle.phase_sum_meaning.proofs.Roominess.{room-build, tally-inverse-room}
 use Rattle.comparison_meaning.specs.Reduction.{Counts, counts, factor}
-use Rattle.comparison_meaning.specs.Verdict.{candidates, firstDiffering, joined, pinnedOf}
+use Rattle.comparison_meaning.specs.Verdict.{candidates, firstDiffering, miter, pinnedOf}
 use Rattle.comparison_meaning.specs.Demands.{NoT, Reached}
 use Rattle.comparison_meaning.proofs.Weight.{sum-zero, search-none}
 use Rattle.comparison_meaning.proofs.Pinning.{PinEnd, pin-ends, pinned-diagonal}
 use Rattle.comparison_meaning.proofs.Reducing.{Kept, steps-keep, live-empty-phase}
 
--- the joined list has the H gates of both
-hGates-joined : (first second : List Gate) → hGates (joined first second) ≡ hGates first + hGates second
-hGates-joined first second = tally-append isH first (inverseList second) ∙ ap (λ k. hGates first + k) (hGates-inverse second)
+-- the miter list has the H gates of both
+hGates-miter : (first second : List Gate) → hGates (miter first second) ≡ hGates first + hGates second
+hGates-miter first second = tally-append isH first (inverseList second) ∙ ap (λ k. hGates first + k) (hGates-inverse second)
 
 -- and their room
-pub room-joined : (first second : List Gate) → tally roomFor (joined first second) ≡ room first second
-room-joined first second = tally-append roomFor first (inverseList second) ∙ ap (λ k. tally roomFor first + k) (tally-inverse-room second)
+pub room-miter : (first second : List Gate) → tally roomFor (miter first second) ≡ room first second
+room-miter first second = tally-append roomFor first (inverseList second) ∙ ap (λ k. tally roomFor first + k) (tally-inverse-room second)
 
 -- and no T gate where neither has one
-pub noT-joined : (n : ℕ) (first second : List Gate) → NoT n first second → tGates (joined first second) ≡ 0
-noT-joined n first second h = omega (arith, tally-append isT first (inverseList second), tGates-inverse second)
+pub noT-miter : (n : ℕ) (first second : List Gate) → NoT n first second → tGates (miter first second) ≡ 0
+noT-miter n first second h = omega (arith, tally-append isT first (inverseList second), tGates-inverse second)
 
 -- what holds of the pinned sum of a pair and of all that steps make of it
 module _ (scratch n : ℕ) (first second : List Gate) (l : AllWithin n first) (r : AllWithin n second) where
-  -- the joined list is within n
-  pub within-joined : AllWithin n (joined first second)
-  within-joined = within-append n first (inverseList second) l (within-inverse n second r)
+  -- the miter list is within n
+  pub within-miter : AllWithin n (miter first second)
+  within-miter = within-append n first (inverseList second) l (within-inverse n second r)
 
   -- what pinning ends in
-  pub pin-end : PinEnd scratch n (build scratch n (joined first second)) (counts 0 0 0 0) (pinnedOf scratch n first second)
-  pin-end = pin-ends scratch n (joined first second) within-joined
+  pub pin-end : PinEnd scratch n (build scratch n (miter first second)) (counts 0 0 0 0) (pinnedOf scratch n first second)
+  pin-end = pin-ends scratch n (miter first second) within-miter
 
   module _ (t : PathSum) (d : Counts) (steps : Reached scratch n first second t d) where
     -- what the steps keep
@@ -66,28 +66,28 @@ module _ (scratch n : ℕ) (first second : List Gate) (l : AllWithin n first) (r
           pin-end .sums,
           pin-end .turns,
           pin-end .joins,
-          live-build scratch n (joined first second),
-          hGates-joined first second,
+          live-build scratch n (miter first second),
+          hGates-miter first second,
         )
 
     -- the terms keep to the room of both
     pub steps-fit : length (t .phase .terms) ≤ room first second
     steps-fit =
         omega
-        (arith, kept .room, pin-end .few, pin-end .pins, room-build scratch n (joined first second), room-joined first second)
+        (arith, kept .room, pin-end .few, pin-end .pins, room-build scratch n (miter first second), room-miter first second)
 
     module _ (through : pinnedOf scratch n first second .blockedBy ≡ none) where
       -- the diagonal amplitude is the power of √2 counted so far times the sum that is left
-      pub steps-diagonal : (v : ℕ) → v < 2 ^ n → Clear scratch v → column (joined first second) v v ≡ √2^ (factor d) (remaining t v)
+      pub steps-diagonal : (v : ℕ) → v < 2 ^ n → Clear scratch v → column (miter first second) v v ≡ √2^ (factor d) (remaining t v)
       unfolding √2^
       steps-diagonal v b clear =
           let start : factor (pinnedOf scratch n first second .counts) ≡ 0 = omega (arith, pin-end .sums, pin-end .turns, pin-end .joins) in
-          pinned-diagonal scratch n (joined first second) v within-joined b clear through ∙ (rw start at (kept .value v))
+          pinned-diagonal scratch n (miter first second) v within-miter b clear through ∙ (rw start at (kept .value v))
 
       module _ (done : t .live ≡ []) where
         -- with no variable left it is a power of √2 times one of ω
         pub done-diagonal :
-            (v : ℕ) → v < 2 ^ n → Clear scratch v → column (joined first second) v v ≡ √2^ (factor d) (ω^ (phaseAt (t .phase) v) 1ω)
+            (v : ℕ) → v < 2 ^ n → Clear scratch v → column (miter first second) v v ≡ √2^ (factor d) (ω^ (phaseAt (t .phase) v) 1ω)
         unfolding phasor
         done-diagonal v b clear = steps-diagonal v b clear ∙ ap (√2^ (factor d)) (live-empty-phase t v done)
 

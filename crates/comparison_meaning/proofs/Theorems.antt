@@ -22,13 +22,13 @@ use Rattle.phase_sum_meaning.specs.Phase.{minus, inOdd}
 use Rattle.phase_sum_meaning.proofs.Evenness.{OddIn, Inputs, ready-even, noOdd-even, noOdd-build}
 use Rattle.phase_sum_meaning.proofs.Roominess.{room-build}
 use Rattle.comparison_meaning.specs.Reduction.{End, factor}
-use Rattle.comparison_meaning.specs.Verdict.{equal, different, undecided, Result, blockedInput, endOf, compare, joined, pinnedOf}
+use Rattle.comparison_meaning.specs.Verdict.{equal, different, undecided, Result, blockedInput, endOf, compare, miter, pinnedOf}
 use Rattle.comparison_meaning.specs.Demands.{SomePower, EqualIsRight, EqualByConstant, DifferentIsRight, ByTheSteps, ReachedBySteps, InputsOnlyIfDifferent, CountsAddUp, StepsWithinHGates, Decided, CliffordIsDecided, EvenIsDecided, EveryStep, EndOfSteps, BuiltFits, EveryStepFits, Demands, BlockedAsShown, EverySumIsCanonical}
 use Rattle.comparison_meaning.specs.Course.{Continues, further, halted, Stuck, Judged, blocked, unready, unsized, found, same, Shown, shows}
 use Rattle.comparison_meaning.proofs.Weight.{search-some}
 use Rattle.comparison_meaning.proofs.Pinning.{blocked-input, pin-blocked}
 use Rattle.comparison_meaning.proofs.Reducing.{reduce-steps, reduce-blocks, stuck-inputs, stuck-nonzero, stuck-zero}
-use Rattle.comparison_meaning.proofs.Reached.{room-joined, noT-joined, within-joined, pin-end, kept, steps-count, steps-fit, steps-diagonal, fits-sized, same-carries, phases-apart}
+use Rattle.comparison_meaning.proofs.Reached.{room-miter, noT-miter, within-miter, pin-end, kept, steps-count, steps-fit, steps-diagonal, fits-sized, same-carries, phases-apart}
 use Rattle.comparison_meaning.proofs.Course.{course-of, only-course, undecided-if-stuck}
 use Rattle.comparison_meaning.proofs.Outcomes.{continues, reduced-steps, reduced-through, reduced-stops, reduced-even, judges, reason, judged-undecided, judged-decided, judged-inputs, reduced-blocked}
 use Rattle.phase_sum_meaning.proofs.Wellformed.{good-build}
@@ -61,13 +61,13 @@ module _ (n : ℕ) (first second : List Gate) (l : AllWithin n first) (r : AllWi
   -- the terms that are built, and those after every step, stand in canonical form
   pub every-sum-is-canonical : EverySumIsCanonical n first second
   every-sum-is-canonical = (
-    good-build 0 n (joined first second) (within-joined 0 n first second l r) .0 .canonical,
+    good-build 0 n (miter first second) (within-miter 0 n first second l r) .0 .canonical,
     λ t d steps. kept 0 n first second l r t d steps .good .canonical,
   )
 
   -- the terms that are built keep to the room of both lists
   pub built-fits : BuiltFits n first second
-  built-fits = omega (arith, room-build 0 n (joined first second), room-joined first second)
+  built-fits = omega (arith, room-build 0 n (miter first second), room-miter first second)
 
   -- so do those after every step
   pub every-step-fits : EveryStepFits n first second
@@ -112,7 +112,7 @@ module _ (n : ℕ) (first second : List Gate) (l : AllWithin n first) (r : AllWi
       {e : End} {q : Parity}
       → Continues n (pinnedOf 0 n first second) e
       → e .blockedBy ≡ some q
-      → (blockedInput n q < 2 ^ n) × (column (joined first second) (blockedInput n q) (blockedInput n q) ≡ 0ω)
+      → (blockedInput n q < 2 ^ n) × (column (miter first second) (blockedInput n q) (blockedInput n q) ≡ 0ω)
   blocked-zero {e} {q} (further through course) h =
       let steps = reduce-steps course in
       let good = kept 0 n first second l r (e .sum) (e .counts) steps .good in
@@ -123,7 +123,7 @@ module _ (n : ℕ) (first second : List Gate) (l : AllWithin n first) (r : AllWi
             ∙ rw (stuck-zero n (e .sum) q (blockedInput n q) good stuck (makes .1)) (√2^-0ω (factor (e .counts))),
       )
   blocked-zero {q} (halted b) h =
-      pin-blocked 0 n (joined first second) q (within-joined 0 n first second l r) h (clear-none (blockedInput n q))
+      pin-blocked 0 n (miter first second) q (within-miter 0 n first second l r) h (clear-none (blockedInput n q))
 
   -- different: the diagonal amplitude is 0 or has another size than √2 once for each H gate, or the phases of the two columns differ
   pub different-is-right : DifferentIsRight n first second (compare 0 n first second)
@@ -178,7 +178,7 @@ module _ (n : ℕ) (first second : List Gate) (l : AllWithin n first) (r : AllWi
   clifford-is-decided noT =
       decided
       (noOdd-even n (pinnedOf 0 n first second .sum .phase .terms)
-      (pin-end 0 n first second l r .even (noOdd-build 0 n (joined first second) (noT-joined n first second noT))))
+      (pin-end 0 n first second l r .even (noOdd-build 0 n (miter first second) (noT-miter n first second noT))))
 
 -- every pair within n meets them
 pub demands : (n : ℕ) (first second : List Gate) → AllWithin n first → AllWithin n second → Demands n first second

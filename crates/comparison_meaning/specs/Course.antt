@@ -15,7 +15,7 @@ use Rattle.phase_sum_meaning.specs.Stepping.{replace}
 use Rattle.comparison_meaning.specs.Reduction as reduction
 use Rattle.comparison_meaning.specs.Reduction.{Counts, counts, addPin, End, blocks, isZero, mismatch}
 use Rattle.comparison_meaning.specs.Steps.{Ready, lOf, Step, sums, turns, joins, Blocked}
-use Rattle.comparison_meaning.specs.Verdict.{Verdict, equal, different, undecided, Result, result, candidates, firstDiffering, blockedInput, joined}
+use Rattle.comparison_meaning.specs.Verdict.{Verdict, equal, different, undecided, Result, result, candidates, firstDiffering, blockedInput, miter}
 
 -- z is the lowest number of a kind
 pub record Lowest (P : ℕ → Type 0) (z : ℕ) : Type 0 where
@@ -115,6 +115,6 @@ pub data Shown (scratch n : ℕ) (e : End) : Result → Type 0 where
 pub record Course (scratch n : ℕ) (first second : List Gate) (r : Result) : Type 0 where
   pub pinning : End
   pub end : End
-  pub pins : Pins scratch n 0 (build scratch n (joined first second)) (counts 0 0 0 0) pinning
+  pub pins : Pins scratch n 0 (build scratch n (miter first second)) (counts 0 0 0 0) pinning
   pub steps : Continues n pinning end
   pub shown : Shown scratch n end r

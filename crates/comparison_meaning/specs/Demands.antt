@@ -21,7 +21,7 @@ use Rattle.phase_sum_meaning.specs.Room.{room, mostVariables, places}
 use Rattle.comparison_meaning.specs.Reduction.{Counts, End, factor}
 use Rattle.comparison_meaning.specs.Steps.{Steps, Blocked}
 use Rattle.comparison_meaning.specs.Course.{Course, Stuck}
-use Rattle.comparison_meaning.specs.Verdict.{Result, equal, different, undecided, joined, pinnedOf, endOf, compare}
+use Rattle.comparison_meaning.specs.Verdict.{Result, equal, different, undecided, miter, pinnedOf, endOf, compare}
 
 -- the sum t with the counts d is reached by document 01's steps from the pinned sum of a pair
 abbrev pub Reached : ℕ → ℕ → List Gate → List Gate → PathSum → Counts → Type 0
@@ -103,7 +103,7 @@ module _ (n : ℕ) (first second : List Gate) where
   -- the diagonal amplitudes of the first list followed by the inverse of the second, H without its factor, are √2 to the factor of d
   -- times the sum that is left in t
   abbrev pub DiagonalIs : PathSum → Counts → Type 0
-  DiagonalIs t d = (v : ℕ) → v < 2 ^ n → column (joined first second) v v ≡ √2^ (factor d) (remaining t v)
+  DiagonalIs t d = (v : ℕ) → v < 2 ^ n → column (miter first second) v v ≡ √2^ (factor d) (remaining t v)
 
   -- the invariant: so it is after every step, in whatever order the steps come
   abbrev pub EveryStep : Type 0
@@ -117,7 +117,7 @@ module _ (n : ℕ) (first second : List Gate) where
   -- the pinned one, stand in canonical form
   abbrev pub EverySumIsCanonical : Type 0
   EverySumIsCanonical =
-      Canonical (build 0 n (joined first second) .phase .terms)
+      Canonical (build 0 n (miter first second) .phase .terms)
       × ((t : PathSum) (d : Counts) → Reached 0 n first second t d → Canonical (t .phase .terms))
 
   -- the terms of a sum keep to the room of both lists
@@ -126,7 +126,7 @@ module _ (n : ℕ) (first second : List Gate) where
 
   -- so do those of the built sum
   abbrev pub BuiltFits : Type 0
-  BuiltFits = Fitting (build 0 n (joined first second))
+  BuiltFits = Fitting (build 0 n (miter first second))
 
   -- and those of every sum that steps reach from the pinned one
   abbrev pub EveryStepFits : Type 0

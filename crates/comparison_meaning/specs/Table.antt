@@ -8,48 +8,48 @@ use Rattle.record_format.specs.Gate.{Gate, one, two, X, Z, S, S†, T, T†, H,
 use Rattle.comparison_meaning.specs.Verdict.{Verdict, equal, different, undecided, Result, compare}
 
 -- two lists on n qubits, and what their comparison gives
-pub record Row : Type 0 where
+pub record Case : Type 0 where
   pub n : ℕ
   pub first : List Gate
   pub second : List Gate
   pub expected : Result
 
--- a row by its parts
-abbrev pub row : ℕ → List Gate → List Gate → Result → Row
-row n first second expected = record { n = n; first = first; second = second; expected = expected }
+-- a case by its parts
+abbrev pub case : ℕ → List Gate → List Gate → Result → Case
+case n first second expected = record { n = n; first = first; second = second; expected = expected }
 
 -- a verdict, its two inputs, then pins, sums, turns, joins and left
 abbrev pub says : Verdict → ℕ → ℕ → ℕ → ℕ → ℕ → ℕ → ℕ → Result
 says v a b p s t j l = record { verdict = v; first = a; second = b; pins = p; sums = s; turns = t; joins = j; left = l }
 
--- the comparison gives what each row expects
-abbrev pub AllRight : List Row → Type 0
+-- the comparison gives what each case expects
+abbrev pub AllRight : List Case → Type 0
 AllRight [] = Unit {0}
 AllRight (r ∷ rs) = (compare 0 (r .n) (r .first) (r .second) ≡ r .expected) × AllRight rs
 
 -- document 01's rows marked P
-abbrev pub rows : List Row
+abbrev pub rows : List Case
 rows =
     -- no gates
-    row 1 [] [] (says equal 0 0 0 0 0 0 0)
+    case 1 [] [] (says equal 0 0 0 0 0 0 0)
     -- H: pins and sums differ
-    ∷ row 1 (one H 0 ∷ []) [] (says different 0 0 1 0 0 0 0)
+    ∷ case 1 (one H 0 ∷ []) [] (says different 0 0 1 0 0 0 0)
     -- H H
-    ∷ row 1 (one H 0 ∷ one H 0 ∷ []) [] (says equal 0 0 1 1 0 0 0)
+    ∷ case 1 (one H 0 ∷ one H 0 ∷ []) [] (says equal 0 0 1 1 0 0 0)
     -- H H H H
-    ∷ row 1 (one H 0 ∷ one H 0 ∷ one H 0 ∷ one H 0 ∷ []) [] (says equal 0 0 1 1 0 1 0)
+    ∷ case 1 (one H 0 ∷ one H 0 ∷ one H 0 ∷ one H 0 ∷ []) [] (says equal 0 0 1 1 0 1 0)
     -- S H S H S H
-    ∷ row 1 (one S 0 ∷ one H 0 ∷ one S 0 ∷ one H 0 ∷ one S 0 ∷ one H 0 ∷ []) [] (says equal 0 0 1 1 1 0 0)
+    ∷ case 1 (one S 0 ∷ one H 0 ∷ one S 0 ∷ one H 0 ∷ one S 0 ∷ one H 0 ∷ []) [] (says equal 0 0 1 1 1 0 0)
     -- T T and S
-    ∷ row 1 (one T 0 ∷ one T 0 ∷ []) (one S 0 ∷ []) (says equal 0 0 0 0 0 0 0)
+    ∷ case 1 (one T 0 ∷ one T 0 ∷ []) (one S 0 ∷ []) (says equal 0 0 0 0 0 0 0)
     -- T
-    ∷ row 1 (one T 0 ∷ []) [] (says different 0 1 0 0 0 0 0)
+    ∷ case 1 (one T 0 ∷ []) [] (says different 0 1 0 0 0 0 0)
     -- X
-    ∷ row 1 (one X 0 ∷ []) [] (says different 0 0 0 0 0 0 0)
+    ∷ case 1 (one X 0 ∷ []) [] (says different 0 0 0 0 0 0 0)
     -- H Z H: blocked at a step, whose variable is still left
-    ∷ row 1 (one H 0 ∷ one Z 0 ∷ one H 0 ∷ []) [] (says different 0 0 1 0 0 0 1)
+    ∷ case 1 (one H 0 ∷ one Z 0 ∷ one H 0 ∷ []) [] (says different 0 0 1 0 0 0 1)
     -- H T H
-    ∷ row 1 (one H 0 ∷ one T 0 ∷ one H 0 ∷ []) [] (says undecided 0 0 1 0 0 0 1)
+    ∷ case 1 (one H 0 ∷ one T 0 ∷ one H 0 ∷ []) [] (says undecided 0 0 1 0 0 0 1)
     ∷ []
 
 -- Z on qubit 2 where qubits 0 and 1 are 1
@@ -76,30 +76,30 @@ undecidedWithItself =
     one H 0 ∷ one H 1 ∷ one T 0 ∷ two CX 1 0 ∷ one H 1 ∷ two CX 1 0 ∷ one H 0 ∷ []
 
 -- rows that show which of several comes first, what is done before what, and what a quick hand would miss
-abbrev pub choices : List Row
+abbrev pub choices : List Case
 choices =
     -- two variables are ready: the lowest
-    row 1 (one H 0 ∷ one S† 0 ∷ one H 0 ∷ one H 0 ∷ []) [] (says different 0 0 1 0 2 0 0)
+    case 1 (one H 0 ∷ one S† 0 ∷ one H 0 ∷ one H 0 ∷ []) [] (says different 0 0 1 0 2 0 0)
     -- two path variables could be replaced in a join: the lowest
-    ∷ row 2 (one H 1 ∷ two CX 1 0 ∷ one H 0 ∷ one H 0 ∷ one H 0 ∷ one H 1 ∷ one S 1 ∷ one H 1 ∷ []) [] (says different 0 0 2 0 0 2 0)
+    ∷ case 2 (one H 1 ∷ two CX 1 0 ∷ one H 0 ∷ one H 0 ∷ one H 0 ∷ one H 1 ∷ one S 1 ∷ one H 1 ∷ []) [] (says different 0 0 2 0 0 2 0)
     -- two path variables could be replaced in a pin: the lowest
-    ∷ row 3 (one H 1 ∷ one H 2 ∷ one H 0 ∷ two CX 1 0 ∷ one H 2 ∷ one H 1 ∷ []) [] (says different 1 1 3 1 0 0 1)
+    ∷ case 3 (one H 1 ∷ one H 2 ∷ one H 0 ∷ two CX 1 0 ∷ one H 2 ∷ one H 1 ∷ []) [] (says different 1 1 3 1 0 0 1)
     -- a blocked parity holds two qubits: the input of the lowest is shown
-    ∷ row 3 (two SWAP 2 1 ∷ []) [] (says different 2 2 0 0 0 0 0)
+    ∷ case 3 (two SWAP 2 1 ∷ []) [] (says different 2 2 0 0 0 0 0)
     -- two inputs of weight 2 differ, 6 and 9: the lower number
-    ∷ row 4 (two CZ 0 3 ∷ two CZ 1 2 ∷ []) [] (says different 0 6 0 0 0 0 0)
+    ∷ case 4 (two CZ 0 3 ∷ two CZ 1 2 ∷ []) [] (says different 0 6 0 0 0 0 0)
     -- a pin replaces its variable in the wires that are pinned after it
-    ∷ row 3 (one H 1 ∷ two CX 1 2 ∷ []) [] (says different 2 2 1 0 0 0 0)
+    ∷ case 3 (one H 1 ∷ two CX 1 2 ∷ []) [] (says different 2 2 1 0 0 0 0)
     -- a variable is ready once T and its inverse are merged
-    ∷ row 1 (one H 0 ∷ one T 0 ∷ one T† 0 ∷ one H 0 ∷ []) [] (says equal 0 0 1 1 0 0 0)
+    ∷ case 1 (one H 0 ∷ one T 0 ∷ one T† 0 ∷ one H 0 ∷ []) [] (says equal 0 0 1 1 0 0 0)
     -- pinning is blocked at qubits 0 and 2: it goes from qubit 0 upwards
-    ∷ row 4 (two SWAP 0 1 ∷ two SWAP 2 3 ∷ []) [] (says different 1 1 0 0 0 0 0)
+    ∷ case 4 (two SWAP 0 1 ∷ two SWAP 2 3 ∷ []) [] (says different 1 1 0 0 0 0 0)
     -- T on a complemented parity turns back: with T on the parity itself only a common turn is left
-    ∷ row 1 (one X 0 ∷ one T 0 ∷ one X 0 ∷ one T 0 ∷ []) [] (says equal 0 0 0 0 0 0 0)
+    ∷ case 1 (one X 0 ∷ one T 0 ∷ one X 0 ∷ one T 0 ∷ []) [] (says equal 0 0 0 0 0 0 0)
     -- a doubly controlled Z differs from nothing only at the input of weight 3
-    ∷ row 3 doublyControlledZ [] (says different 0 7 0 0 0 0 0)
+    ∷ case 3 doublyControlledZ [] (says different 0 7 0 0 0 0 0)
     -- S in the second list is undone by its inverse
-    ∷ row 1 (one S 0 ∷ []) (one S 0 ∷ []) (says equal 0 0 0 0 0 0 0)
+    ∷ case 1 (one S 0 ∷ []) (one S 0 ∷ []) (says equal 0 0 0 0 0 0 0)
     -- a list may be undecided against itself: the steps go by the sum, and do not see that the lists are the same
-    ∷ row 2 undecidedWithItself undecidedWithItself (says undecided 0 0 2 0 0 1 4)
+    ∷ case 2 undecidedWithItself undecidedWithItself (says undecided 0 0 2 0 0 1 4)
     ∷ []

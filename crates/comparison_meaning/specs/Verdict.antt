@@ -103,12 +103,12 @@ judge scratch n e =
     ]
 
 -- first list, then the second backwards with S and T exchanged for their inverses
-abbrev pub joined : List Gate → List Gate → List Gate
-joined first second = first ++ inverseList second
+abbrev pub miter : List Gate → List Gate → List Gate
+miter first second = first ++ inverseList second
 
 -- where pinning the sum of a pair ends
 abbrev pub pinnedOf : ℕ → ℕ → List Gate → List Gate → End
-pinnedOf scratch n first second = pinned scratch n (build scratch n (joined first second))
+pinnedOf scratch n first second = pinned scratch n (build scratch n (miter first second))
 
 -- where the reduction of a pair ends
 abbrev pub endOf : ℕ → ℕ → List Gate → List Gate → End

@@ -7,7 +7,7 @@ ghost use Rattle.amplitude.specs.Bits.{bit};
 ghost use Rattle.phase_sum_meaning.specs.Stepping.{kindOf, constraint, constrained, firstReady};
 ghost use Rattle.phase_sum_terms.specs.Workspace.{held, parityOf, members, foundOf, lent, before, after, Sized};
 ghost use Rattle.comparison_meaning.specs.Reduction.{addSum, addTurn, addJoin};
-ghost use Rattle.comparison_types.specs.Inner.{countsOf, CountedTo, StepsTo, StepsAt, Reduces};
+ghost use Rattle.comparison_types.specs.Inner.{countsOf, CountedTo, StepsTo, StepsAt, ReducedTo};
 use crate::pinning::rest_of;
 use comparison_types::Counts;
 use comparison_types::End;
@@ -182,7 +182,7 @@ pub fn reduce(
     coeffs: &mut [u8],
 ) -> End
     requires { ⌜ CountedTo 0 counts × Sized sum (lent ws fs sets coeffs) ⌝ }
-    ensures { λ r. ⌜ Reduces sum counts r (before ws fs sets coeffs) (after ws fs sets coeffs) ⌝ }
+    ensures { λ r. ⌜ ReducedTo sum counts r (before ws fs sets coeffs) (after ws fs sets coeffs) ⌝ }
 {
     let mut end = goes(sum, counts);
     let mut left = u64::count_ones(sum.live);

@@ -32,7 +32,7 @@ use Rattle.phase_sum_terms.proofs.Acceptance.{buildable}
 use Rattle.comparison_meaning.specs.Reduction as reduction
 use Rattle.comparison_meaning.specs.Reduction.{pinned, reduceEnd}
 use Rattle.comparison_meaning.specs.Verdict as verdict
-use Rattle.comparison_meaning.specs.Verdict.{Result, equal, different, undecided, joined, judge, compare}
+use Rattle.comparison_meaning.specs.Verdict.{Result, equal, different, undecided, miter, judge, compare}
 use Rattle.comparison_meaning.specs.Demands.{Accepted, Demands, EqualIsRight, DifferentIsRight, ByTheSteps, InputsOnlyIfDifferent, CliffordIsDecided, CountsAddUp, StepsWithinHGates}
 use Rattle.comparison_meaning.proofs.Bytes.{demands-pair, room-fits-pair}
 use Rattle.comparison_types.specs.Call.{Said, says, refuses, numberOf, verdictOf, resultOf, saidOf, pairRows, workspaceRows, pairFault, compareRead, unlessFault, comparison, leftBy}
@@ -52,7 +52,7 @@ use Rattle.comparison_types.proofs.PairLaws.{part-of, gates-of}
 -- a sum that was built of two lists in slices with room for them has room to be reduced
 pub built-sized :
     (gs hs : List Gate) {r : Sum} {l l′ : Lent} →
-    Builds (joined gs hs) r l l′ →
+    Builds (miter gs hs) r l l′ →
     AsLong l l′ →
     length (l .wires) ≤ 16 →
     length (l .flips) ≡ length (l .wires) →
@@ -61,9 +61,9 @@ pub built-sized :
     Sized r l′
 built-sized gs hs {r} {l} {l′} b long few flips sets coeffs =
     let n = length (l .wires) in
-    let fits = room-build 0 n (joined gs hs) in
-    let rooms : tally roomFor (joined gs hs) ≡ room gs hs = tally-append roomFor gs (inverseList hs) ∙ rw (tally-inverse-room hs) in
-    let left : length (members (r .live)) ≡ length (build 0 n (joined gs hs) .live) = ap (λ t. length (t .live)) (b .sum) in
+    let fits = room-build 0 n (miter gs hs) in
+    let rooms : tally roomFor (miter gs hs) ≡ room gs hs = tally-append roomFor gs (inverseList hs) ∙ rw (tally-inverse-room hs) in
+    let left : length (members (r .live)) ≡ length (build 0 n (miter gs hs) .live) = ap (λ t. length (t .live)) (b .sum) in
     record {
       few = omega (arith, few, long .wires);
       flips = omega (arith, flips, long .wires, long .flips);
@@ -74,7 +74,7 @@ built-sized gs hs {r} {l} {l′} b long few flips sets coeffs =
 -- building, pinning, reducing and judging one after the other is the comparison
 pub decided :
     (n k : ℕ) (gs hs : List Gate) {u : PathSum} {p e : reduction.End} {o : Result} →
-    u ≡ build 0 n (joined gs hs) →
+    u ≡ build 0 n (miter gs hs) →
     k ≡ n →
     p ≡ pinned 0 k u →
     e ≡ reduceEnd p →

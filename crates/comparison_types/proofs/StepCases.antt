@@ -38,7 +38,7 @@ use Rattle.comparison_types.specs.declared.Counts.{Counts}
 use Rattle.phase_sum_terms.specs.declared.Sum.{Sum}
 use Rattle.comparison_types.specs.declared.End.{End}
 use Rattle.phase_sum_terms.specs.declared.Found.{Found}
-use Rattle.comparison_types.specs.Inner.{countsOf, endOf, nextOf, CountedTo, stepTo, Stays, Reduces}
+use Rattle.comparison_types.specs.Inner.{countsOf, endOf, nextOf, CountedTo, stepTo, Stays, ReducedTo}
 use Rattle.phase_sum_terms.proofs.Members.{member-held, members-without, length-members}
 use Rattle.phase_sum_terms.proofs.Running.{AsLong, long-after}
 
@@ -332,16 +332,16 @@ module _
     -- it ends here where it stops here
     going-stops :
         reduceFrom left (sumOf (e .sum) l′) (countsOf (e .counts)) ≡ stops (sumOf (e .sum) l′) (countsOf (e .counts)) →
-        Reduces s c e l l′
+        ReducedTo s c e l l′
     going-stops done =
         record { end = rw (length-members (s .live) word, going .free) (sym (going .later ∙ done)); sized = going .sized }
 
     -- no step is left
-    pub going-spent : left ≤ 0 → Reduces s c e l l′
+    pub going-spent : left ≤ 0 → ReducedTo s c e l l′
     going-spent h = going-stops (reduce-spent left (sumOf (e .sum) l′) (countsOf (e .counts)) h)
 
     -- none is ready
-    pub going-idle : readyIn (e .sum) l′ ≡ none → Reduces s c e l l′
+    pub going-idle : readyIn (e .sum) l′ ≡ none → ReducedTo s c e l l′
     going-idle n = going-stops (reduce-none left (sumOf (e .sum) l′) (countsOf (e .counts)) n)
 
     -- a step at y to the end f
@@ -377,7 +377,7 @@ module _
             }
 
         -- it is blocked
-        pub going-blocked : f .blocked ≡ true → Stays (e .sum) (e .counts) f l′ l″ → Reduces s c f l l″
+        pub going-blocked : f .blocked ≡ true → Stays (e .sum) (e .counts) f l′ l″ → ReducedTo s c f l l″
         going-blocked blocked stays =
             let stopped : stuck (parityOf (f .by)) ≡ stepAt y (sumOf (e .sum) l′) (countsOf (e .counts)) = rw blocked at next in
             let same = stays blocked in

@@ -102,7 +102,7 @@ pub record StepsAt (y : ℕ) (s : Sum) (c : Counts) (e : End) (l l′ : Lent) : 
   pub sized : Sized (e .sum) l′
 
 -- what the steps of the sum s with the counts c end in
-pub record Reduces (s : Sum) (c : Counts) (e : End) (l l′ : Lent) : Type 0 where
+pub record ReducedTo (s : Sum) (c : Counts) (e : End) (l l′ : Lent) : Type 0 where
   pub end : endOf e l′ ≡ reduction.reduceFrom (length (members (s .live))) (sumOf s l) (countsOf c)
   pub sized : Sized (e .sum) l′
 

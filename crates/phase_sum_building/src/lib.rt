@@ -8,7 +8,7 @@ ghost use Rattle.record_format.specs.Gate.{inverseList};
 ghost use Rattle.phase_sum_meaning.specs.Sets.{from};
 ghost use Rattle.phase_sum_meaning.specs.Building.{initial};
 ghost use Rattle.phase_sum_terms.specs.Workspace.{slices, lent, before, after, members};
-ghost use Rattle.phase_sum_terms.specs.Unmerged.{gatesIn, joinedIn, Fits, Leaves, RunsAll, Builds, Buildable};
+ghost use Rattle.phase_sum_terms.specs.Unmerged.{gatesIn, miterIn, Runnable, Leaves, RunsAll, Builds, Buildable};
 use phase_sum_gates::move_wires;
 use phase_sum_gates::moves;
 use phase_sum_gates::run_gate;
@@ -29,7 +29,7 @@ pub fn forwards(
     sets: &mut [u64],
     coeffs: &mut [u8],
 ) -> Run
-    requires { ⌜ (length (now gates) % 3 ≡ 0) × Fits run (gatesIn (now gates)) (lent ws fs sets coeffs) ⌝ }
+    requires { ⌜ (length (now gates) % 3 ≡ 0) × Runnable run (gatesIn (now gates)) (lent ws fs sets coeffs) ⌝ }
     ensures { λ r. ⌜ RunsAll (gatesIn (now (gates .entry))) run r (before ws fs sets coeffs) (after ws fs sets coeffs) ⌝ }
 {
     let mut now = run;
@@ -57,7 +57,7 @@ pub fn backwards(
     sets: &mut [u64],
     coeffs: &mut [u8],
 ) -> Run
-    requires { ⌜ (length (now gates) % 3 ≡ 0) × Fits run (inverseList (gatesIn (now gates))) (lent ws fs sets coeffs) ⌝ }
+    requires { ⌜ (length (now gates) % 3 ≡ 0) × Runnable run (inverseList (gatesIn (now gates))) (lent ws fs sets coeffs) ⌝ }
     ensures { λ r. ⌜ RunsAll (inverseList (gatesIn (now (gates .entry)))) run r (before ws fs sets coeffs) (after ws fs sets coeffs) ⌝ }
 {
     let mut now = run;
@@ -121,7 +121,7 @@ pub fn build(
     coeffs: &mut [u8],
 ) -> Sum
     requires { ⌜ (length (now fs) ≡ length (now ws)) × Buildable (length (now ws)) (now first) (now second) (now sets) (now coeffs) ⌝ }
-    ensures { λ r. ⌜ Builds (joinedIn (now (first .entry)) (now (second .entry))) r (before ws fs sets coeffs) (after ws fs sets coeffs) ⌝ }
+    ensures { λ r. ⌜ Builds (miterIn (now (first .entry)) (now (second .entry))) r (before ws fs sets coeffs) (after ws fs sets coeffs) ⌝ }
 {
     let n = ws.len();
     let begun = start(ws, fs);

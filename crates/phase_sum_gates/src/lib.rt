@@ -9,7 +9,7 @@ ghost use Rattle.record_format.specs.Gate.{Within, gateOf, raw, one, two, X, Y,
 ghost use Rattle.phase_sum_meaning.specs.Parity.{_⊕_};
 ghost use Rattle.phase_sum_meaning.specs.Building.{PathSum};
 ghost use Rattle.phase_sum_terms.specs.Workspace.{held, parityOf, zipWires, Stored, lent, before, after};
-ghost use Rattle.phase_sum_terms.specs.Unmerged.{phaseTerm, productTerms, appendGate, sumIn, Fits, Leaves, Runs, movesOnly, Moves};
+ghost use Rattle.phase_sum_terms.specs.Unmerged.{phaseTerm, productTerms, appendGate, sumIn, Runnable, Leaves, Runs, movesOnly, Moves};
 ghost use Rattle.phase_sum_terms.specs.Inner.{onH, phaseConstant, productConstant, appendPhase};
 use phase_sum_terms::Phase;
 use phase_sum_terms::Run;
@@ -167,7 +167,7 @@ fn y_gate(
     sets: &mut [u64],
     coeffs: &mut [u8],
 ) -> Run
-    requires { ⌜ Fits run (one Y q ∷ []) (lent ws fs sets coeffs) ⌝ }
+    requires { ⌜ Runnable run (one Y q ∷ []) (lent ws fs sets coeffs) ⌝ }
     ensures { λ r. ⌜ Runs (one Y q) run r (before ws fs sets coeffs) (after ws fs sets coeffs) ⌝ }
 {
     let old = run.phase;
@@ -191,7 +191,7 @@ fn hadamard(
     sets: &mut [u64],
     coeffs: &mut [u8],
 ) -> Run
-    requires { ⌜ Fits run (onH q ∷ []) (lent ws fs sets coeffs) ⌝ }
+    requires { ⌜ Runnable run (onH q ∷ []) (lent ws fs sets coeffs) ⌝ }
     ensures { λ r. ⌜ Runs (onH q) run r (before ws fs sets coeffs) (after ws fs sets coeffs) ⌝ }
 {
     let old = run.phase;
@@ -218,7 +218,7 @@ fn controlled_z(
     sets: &mut [u64],
     coeffs: &mut [u8],
 ) -> Run
-    requires { ⌜ Fits run (two CZ a b ∷ []) (lent ws fs sets coeffs) ⌝ }
+    requires { ⌜ Runnable run (two CZ a b ∷ []) (lent ws fs sets coeffs) ⌝ }
     ensures { λ r. ⌜ Runs (two CZ a b) run r (before ws fs sets coeffs) (after ws fs sets coeffs) ⌝ }
 {
     let phase = run.phase;
@@ -239,7 +239,7 @@ pub fn run_gate(
     sets: &mut [u64],
     coeffs: &mut [u8],
 ) -> Run
-    requires { ⌜ (movesOnly (gateOf (raw kind a b)) ≡ false) × Fits run (gateOf (raw kind a b) ∷ []) (lent ws fs sets coeffs) ⌝ }
+    requires { ⌜ (movesOnly (gateOf (raw kind a b)) ≡ false) × Runnable run (gateOf (raw kind a b) ∷ []) (lent ws fs sets coeffs) ⌝ }
     ensures { λ r. ⌜ Runs (gateOf (raw kind a b)) run r (before ws fs sets coeffs) (after ws fs sets coeffs) ⌝ }
 {
     let p = a as usize;

@@ -23,7 +23,7 @@ use Rattle.amplitude.proofs.BitLaws.{bit-put-same, bit-put-other, put-bit, put-
 use Rattle.phase_sum_meaning.specs.Sets.{_△_, single, from, Clear}
 use Rattle.phase_sum_meaning.specs.Parity.{Parity, value, of, _⊕_, complement}
 use Rattle.phase_sum_meaning.specs.Phase.{Phase, sumAt, phaseAt, addConstant, addPhase}
-use Rattle.phase_sum_meaning.specs.Building.{PathSum, input, initial, wire, setWire, withPhase, turnBy, product, hadamard, gate, gatesFrom, build}
+use Rattle.phase_sum_meaning.specs.Building.{PathSum, input, initial, wire, setWire, withPhase, phaseOn, product, hadamard, gate, gatesFrom, build}
 use Rattle.phase_sum_meaning.specs.Meaning.{sumOver, phasor}
 use Rattle.amplitude.proofs.XorLaws.{xor-falseˡ, xor-falseʳ, xor-trueˡ, xor-self, xor-assoc, xor-comm, xor-cancel}
 use Rattle.phase_sum_meaning.proofs.SetLaws.{bit-△, parity-single, parity-empty}
@@ -178,7 +178,7 @@ meaning-phase n k φ s v w h =
 
 -- a phase c on a wire turns where the output's bit is 1
 pub meaning-turn : (n c q : ℕ) (s : PathSum) (v w : ℕ) → q < n →
-    meaning n (turnBy c (wire q s) s) v w ≡ ω^ (c * digit (bit q w)) (meaning n s v w)
+    meaning n (phaseOn c (wire q s) s) v w ≡ ω^ (c * digit (bit q w)) (meaning n s v w)
 meaning-turn n c q s v w l =
     meaning-phase n (c * digit (bit q w)) (addPhase c (wire q s) (s .phase)) s v w
     (λ x r. phasor-turn c (wire q s) (s .phase) x ∙ ap (λ (t : Bool). ω^ (c * digit t) (phasor (s .phase) x)) (r q l))
@@ -473,8 +473,8 @@ unfolding withPhase
 fresh-phase n φ s below fresh = record { live = fresh .live; width = fresh .width; wires = fresh .wires; terms = below }
 
 -- so does a phase added on a parity that holds none
-pub fresh-turn : (n c : ℕ) (p : Parity) (s : PathSum) → Below (n + length (s .live)) (p .vars) → Fresh n s → Fresh n (turnBy c p s)
-fresh-turn n c p s below fresh =
+pub fresh-phase-on : (n c : ℕ) (p : Parity) (s : PathSum) → Below (n + length (s .live)) (p .vars) → Fresh n s → Fresh n (phaseOn c p s)
+fresh-phase-on n c p s below fresh =
     fresh-phase n (addPhase c p (s .phase)) s
     (every-addPhase (λ t. Below (n + length (s .live)) (t .set)) c p (s .phase) (λ k. below) (fresh .terms)) fresh
 
@@ -483,8 +483,8 @@ pub fresh-product : (n : ℕ) (p q : Parity) (s : PathSum) → Below (n + length
     Fresh n s → Fresh n (product p q s)
 unfolding withPhase _⊕_
 fresh-product n p q s hp hq fresh =
-    fresh-turn n 6 (_⊕_ p q) (turnBy 2 q (turnBy 2 p s)) (below-△ (n + length (s .live)) (p .vars) (q .vars) hp hq)
-    (fresh-turn n 2 q (turnBy 2 p s) hq (fresh-turn n 2 p s hp fresh))
+    fresh-phase-on n 6 (_⊕_ p q) (phaseOn 2 q (phaseOn 2 p s)) (below-△ (n + length (s .live)) (p .vars) (q .vars) hp hq)
+    (fresh-phase-on n 2 q (phaseOn 2 p s) hq (fresh-phase-on n 2 p s hp fresh))
 
 -- H brings the next path variable
 pub fresh-hadamard : (n q : ℕ) (s : PathSum) → q < n → Fresh n s → Fresh n (hadamard (n + length (s .live)) q s)
@@ -530,14 +530,14 @@ pub fresh-gate : (n : ℕ) (g : Gate) (s : PathSum) → Within n g → Fresh n s
 unfolding gate complement _⊕_ withPhase setWire addConstant
 fresh-gate n (one X q) s l fresh = fresh-set n q (complement (wire q s)) s l (fresh .wires q l) fresh
 fresh-gate n (one Y q) s l fresh =
-    let t = fresh-turn n 4 (wire q s) s (fresh .wires q l) fresh in
+    let t = fresh-phase-on n 4 (wire q s) s (fresh .wires q l) fresh in
     fresh-set n q (complement (wire q s)) (withPhase (addConstant 2 (addPhase 4 (wire q s) (s .phase))) s) l (fresh .wires q l)
     (fresh-phase n (addConstant 2 (addPhase 4 (wire q s) (s .phase))) s (t .terms) fresh)
-fresh-gate n (one Z q) s l fresh = fresh-turn n 4 (wire q s) s (fresh .wires q l) fresh
-fresh-gate n (one S q) s l fresh = fresh-turn n 2 (wire q s) s (fresh .wires q l) fresh
-fresh-gate n (one S† q) s l fresh = fresh-turn n 6 (wire q s) s (fresh .wires q l) fresh
-fresh-gate n (one T q) s l fresh = fresh-turn n 1 (wire q s) s (fresh .wires q l) fresh
-fresh-gate n (one T† q) s l fresh = fresh-turn n 7 (wire q s) s (fresh .wires q l) fresh
+fresh-gate n (one Z q) s l fresh = fresh-phase-on n 4 (wire q s) s (fresh .wires q l) fresh
+fresh-gate n (one S q) s l fresh = fresh-phase-on n 2 (wire q s) s (fresh .wires q l) fresh
+fresh-gate n (one S† q) s l fresh = fresh-phase-on n 6 (wire q s) s (fresh .wires q l) fresh
+fresh-gate n (one T q) s l fresh = fresh-phase-on n 1 (wire q s) s (fresh .wires q l) fresh
+fresh-gate n (one T† q) s l fresh = fresh-phase-on n 7 (wire q s) s (fresh .wires q l) fresh
 fresh-gate n (one H q) s l fresh = fresh-hadamard n q s l fresh
 fresh-gate n (two CX a b) s l fresh =
     fresh-set n b (_⊕_ (wire b s) (wire a s)) s (l .1)
@@ -606,7 +606,7 @@ Agrees n v ψ s = (w : ℕ) → w < 2 ^ n → ψ w ≡ meaning n s v w
 
 -- a diagonal gate, as a phase on its wire
 pub diagonal-step : (n v : ℕ) (u : OneQubit) (c q : ℕ) (ψ : State) (s : PathSum) → matrix u ≡ rows (ω 0) O O (ω c) → q < n →
-    Agrees n v ψ s → Agrees n v (apply (one u q) ψ) (turnBy c (wire q s) s)
+    Agrees n v ψ s → Agrees n v (apply (one u q) ψ) (phaseOn c (wire q s) s)
 diagonal-step n v u c q ψ s e l same w lw =
     apply-diagonal u c q ψ w e ∙ (ap (ω^ (c * digit (bit q w))) (same w lw) ∙ sym (meaning-turn n c q s v w l))
 
@@ -618,14 +618,14 @@ Y-step n v q ψ s l long same w lw =
     apply-crossing Y (λ t. 2 + 4 * digit (not t)) q ψ w refl
     ∙ (ω^-add 2 (4 * digit (not (bit q w))) (ψ other)
     ∙ (ap (ω^ 2) inner
-    ∙ (sym (meaning-phase n 2 (addConstant 2 (addPhase 4 (wire q s) (s .phase))) (turnBy 4 (wire q s) s) v other
+    ∙ (sym (meaning-phase n 2 (addConstant 2 (addPhase 4 (wire q s) (s .phase))) (phaseOn 4 (wire q s) s) v other
     (λ x r. phasor-constant 2 (addPhase 4 (wire q s) (s .phase)) x))
     ∙ sym (meaning-complement n q (withPhase (addConstant 2 (addPhase 4 (wire q s) (s .phase))) s) v w l long))))
   where
     other : ℕ
     other = put q (not (bit q w)) w
 
-    inner : ω^ (4 * digit (not (bit q w))) (ψ other) ≡ meaning n (turnBy 4 (wire q s) s) v other
+    inner : ω^ (4 * digit (not (bit q w))) (ψ other) ≡ meaning n (phaseOn 4 (wire q s) s) v other
     inner =
         ap₂ (λ (t : Bool) (z : Zω). ω^ (4 * digit t) z) (sym (bit-put-same q (not (bit q w)) w)) (same other (put-below n q _ w l lw))
         ∙ sym (meaning-turn n 4 q s v other l)

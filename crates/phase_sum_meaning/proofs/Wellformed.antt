@@ -19,7 +19,7 @@ use Rattle.amplitude.proofs.BitLaws.{bit-zero, bit-power-other}
 use Rattle.phase_sum_meaning.specs.Sets.{_△_, single, without, from, Among, here, there, firstIn}
 use Rattle.phase_sum_meaning.specs.Parity.{Parity, of, _⊕_, complement, rest, replaceIn}
 use Rattle.phase_sum_meaning.specs.Phase.{Term, Phase, addConstant, addPhase, rebuild, Canonical}
-use Rattle.phase_sum_meaning.specs.Building.{PathSum, input, initial, wire, setWire, withPhase, turnBy, product, hadamard, gate, gatesFrom, build}
+use Rattle.phase_sum_meaning.specs.Building.{PathSum, input, initial, wire, setWire, withPhase, phaseOn, product, hadamard, gate, gatesFrom, build}
 use Rattle.phase_sum_meaning.specs.Stepping.{replace, outOf, oddHalves, takeOut, turned}
 use Rattle.phase_sum_meaning.proofs.SetLaws.{bit-△}
 use Rattle.phase_sum_meaning.proofs.VariableLaws.{Rising, without-among, among-without, rising-without, length-without, from-among, from-rising, from-length, from-snoc, firstSuch-none, firstSuch-lowest}
@@ -139,7 +139,7 @@ unfolding setWire
 held-setWire n q p s hp h = (h .0, λ r. set-keeps (λ w. Holds n (s .live) (w .vars)) (s .wires) q r p (of 0) hp (h .1 r))
 
 -- so does a phase on a wire
-held-turn : (n c q : ℕ) (s : PathSum) → Held n s → Held n (turnBy c (wire q s) s)
+held-turn : (n c q : ℕ) (s : PathSum) → Held n s → Held n (phaseOn c (wire q s) s)
 unfolding withPhase
 held-turn n c q s h = (sound-addPhase n (s .live) c (wire q s) (s .phase) (h .1 q) (h .0), h .1)
 
@@ -178,7 +178,7 @@ held-gate : (y n : ℕ) (g : Gate) (s : PathSum) → Held n s → Held n (gate y
 unfolding gate setWire withPhase complement _⊕_
 held-gate y n (one X q) s h = held-setWire n q (complement (wire q s)) s (h .1 q) h
 held-gate y n (one Y q) s h =
-    let t = turnBy 4 (wire q s) s in
+    let t = phaseOn 4 (wire q s) s in
     let ht : Held n t = held-turn n 4 q s h in
     held-setWire n q (complement (wire q t)) (withPhase (addConstant y (t .phase)) t) (h .1 q)
     (sound-addConstant n (s .live) y (t .phase) (ht .0), h .1)

@@ -39,12 +39,12 @@ unfoldable pub withPhase : Phase → PathSum → PathSum
 withPhase φ s = record { phase = φ; wires = s .wires; live = s .live }
 
 -- c on a parity
-abbrev pub turnBy : ℕ → Parity → PathSum → PathSum
-turnBy c p s = withPhase (addPhase c p (s .phase)) s
+abbrev pub phaseOn : ℕ → Parity → PathSum → PathSum
+phaseOn c p s = withPhase (addPhase c p (s .phase)) s
 
 -- 4 on a product of two parities, by 4uv = 2u + 2v − 2(u ⊕ v)
 abbrev pub product : Parity → Parity → PathSum → PathSum
-product u v s = turnBy 6 (u ⊕ v) (turnBy 2 v (turnBy 2 u s))
+product u v s = phaseOn 6 (u ⊕ v) (phaseOn 2 v (phaseOn 2 u s))
 
 -- H on wire q: the new path variable v comes in
 unfoldable pub hadamard : ℕ → ℕ → PathSum → PathSum
@@ -56,13 +56,13 @@ hadamard v q s =
 unfoldable pub gate : ℕ → ℕ → Gate → PathSum → PathSum
 gate y n (one X q) s = setWire q (complement (wire q s)) s
 gate y n (one Y q) s =
-    let t = turnBy 4 (wire q s) s in
+    let t = phaseOn 4 (wire q s) s in
     setWire q (complement (wire q t)) (withPhase (addConstant y (t .phase)) t)
-gate y n (one Z q) s = turnBy 4 (wire q s) s
-gate y n (one S q) s = turnBy 2 (wire q s) s
-gate y n (one S† q) s = turnBy 6 (wire q s) s
-gate y n (one T q) s = turnBy 1 (wire q s) s
-gate y n (one T† q) s = turnBy 7 (wire q s) s
+gate y n (one Z q) s = phaseOn 4 (wire q s) s
+gate y n (one S q) s = phaseOn 2 (wire q s) s
+gate y n (one S† q) s = phaseOn 6 (wire q s) s
+gate y n (one T q) s = phaseOn 1 (wire q s) s
+gate y n (one T† q) s = phaseOn 7 (wire q s) s
 gate y n (one H q) s = hadamard (n + length (s .live)) q s
 gate y n (two CX a b) s = setWire b (wire b s ⊕ wire a s) s
 gate y n (two CZ a b) s = product (wire a s) (wire b s) s

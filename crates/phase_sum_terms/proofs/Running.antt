@@ -22,7 +22,7 @@ use Rattle.phase_sum_meaning.specs.Phase.{Term, Phase as Polynomial, minus, add
 use Rattle.phase_sum_meaning.specs.Building.{PathSum, initial, wire, setWire, withPhase, hadamard, gate, build}
 use Rattle.phase_sum_meaning.specs.Room.{roomFor, room}
 use Rattle.phase_sum_terms.specs.Workspace.{held, setsOf, coeffsOf, over, Stored, merged, parityOf, zipWires, Lent, slices, wiresIn, members}
-use Rattle.phase_sum_terms.specs.Unmerged.{gatesIn, phaseTerm, productTerms, gateTerms, appendGate, appendGates, sumIn, Fits, Leaves, movesOnly, Moves, placesTaken, Builds, Buildable}
+use Rattle.phase_sum_terms.specs.Unmerged.{gatesIn, phaseTerm, productTerms, gateTerms, appendGate, appendGates, sumIn, Runnable, Leaves, movesOnly, Moves, placesTaken, Builds, Buildable}
 use Rattle.phase_sum_terms.specs.Inner.{phaseConstant, productConstant, appendPhase, onH}
 use Rattle.phase_sum_terms.specs.declared.Phase.{Phase}
 use Rattle.phase_sum_terms.specs.declared.Wire.{Wire}
@@ -288,7 +288,7 @@ swap-moves a b ws n s e = rw (append-nil, ← e)
 -- what a gate that only moves wires leaves
 pub moves-leaves :
     (s : Run) (g : Gate) (l : Lent) (ws′ : List ℕ) (fs′ : List Bool) →
-    Fits s (g ∷ []) l →
+    Runnable s (g ∷ []) l →
     Moves g (wiresIn l) (zipWires ws′ fs′) →
     Leaves (appendGate (length (l .wires)) g (sumIn s l)) (s .phase .count) s l (slices ws′ fs′ (l .sets) (l .coeffs))
 moves-leaves s g l ws′ fs′ fits moves =
@@ -399,13 +399,13 @@ leaves-sum {u} {m} {r} {l} {l′} leaves same k live =
 pub record ToRun (u : PathSum) (gs : List Gate) (m : ℕ) (r : Run) (l l′ : Lent) : Type 0 where
   pub makes : appendGates (length (l .wires)) gs (sumIn r l′) ≡ u
   pub terms : Stored m (held (r .phase .count) (l′ .sets) (l′ .coeffs)) (r .phase .count) (l .sets) (l .coeffs) (l′ .sets) (l′ .coeffs)
-  pub fits : Fits r gs l′
+  pub fits : Runnable r gs l′
   pub long : AsLong l l′
 
 -- before any gate has run
 pub none-run :
     (s : Run) (gs : List Gate) (l : Lent) →
-    Fits s gs l →
+    Runnable s gs l →
     ToRun (appendGates (length (l .wires)) gs (sumIn s l)) gs (s .phase .count) s l l
 none-run s gs l fits =
     record {
@@ -430,10 +430,10 @@ all-run {r = r} {l′ = l′} run =
 -- what is left to fit after some of the gates
 rest-fits :
     (s : Run) (gs hs : List Gate) (l : Lent) {r : Run} {l′ : Lent} →
-    Fits s (gs ++ hs) l →
+    Runnable s (gs ++ hs) l →
     Leaves (appendGates (length (l .wires)) gs (sumIn s l)) (s .phase .count) r l l′ →
     AsLong l l′ →
-    Fits r hs l′
+    Runnable r hs l′
 rest-fits s gs hs l {r} {l′} fits leaves long =
     let n = length (l .wires) in
     let live = live-appended n (s .next - n) gs (sumIn s l) refl in
@@ -493,7 +493,7 @@ one-run g gs s run leaves long = some-run (g ∷ []) gs s run leaves long
 
 -- the first of the gates that are to run fit
 pub first-fit :
-    {u : PathSum} (gs hs : List Gate) {m : ℕ} {s : Run} {l l′ : Lent} → ToRun u (gs ++ hs) m s l l′ → Fits s gs l′
+    {u : PathSum} (gs hs : List Gate) {m : ℕ} {s : Run} {l l′ : Lent} → ToRun u (gs ++ hs) m s l l′ → Runnable s gs l′
 first-fit gs hs {l′ = l′} run =
     let fits = run .fits in
     let rooms = tally-append roomFor gs hs in
@@ -590,7 +590,7 @@ module _
         }
 
     -- the first list fits
-    pub start-fits : Fits s (gatesIn first) l₁
+    pub start-fits : Runnable s (gatesIn first) l₁
     start-fits = first-fit (gatesIn first) (inverseList (gatesIn second)) start-run
 
     -- after the first list

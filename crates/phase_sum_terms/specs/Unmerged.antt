@@ -24,8 +24,8 @@ abbrev pub gatesIn : List ℕ → List Gate
 gatesIn bytes = map gateOf (raws bytes)
 
 -- the gates of the first list, then those of the second backwards and each inverted, from the bytes of both
-abbrev pub joinedIn : List ℕ → List ℕ → List Gate
-joinedIn first second = gatesIn first ++ inverseList (gatesIn second)
+abbrev pub miterIn : List ℕ → List ℕ → List Gate
+miterIn first second = gatesIn first ++ inverseList (gatesIn second)
 
 -- the term of a phase c on a parity: −c where the parity is complemented
 unfoldable pub phaseTerm : ℕ → Parity → Term
@@ -74,7 +74,7 @@ sumIn r l =
 
 -- what running gates asks for: a place a qubit, at most 16 qubits, the gates on these, at most 64 variables in the end, and room for the
 -- terms in both workspaces
-pub record Fits (r : Run) (gs : List Gate) (l : Lent) : Type 0 where
+pub record Runnable (r : Run) (gs : List Gate) (l : Lent) : Type 0 where
   pub flips : length (l .flips) ≡ length (l .wires)
   pub few : length (l .wires) ≤ 16
   pub started : length (l .wires) ≤ r .next

@@ -17,7 +17,7 @@ use Rattle.record_format.specs.Reading.{size, count, qubits, gates, badQ
 use Rattle.record_format.specs.Answer.{gives, refuses, fields, numberOf}
 use Rattle.record_format.specs.Writing.{encode, outcome, write, start, add, inverse}
 use Rattle.record_format.specs.Report.{reportBytes, reportRows, writeReport, readReport}
-use Rattle.record_format.specs.Promises.{NoneHolds, RefusedByFirstRow, AcceptedByNoRow, Sound, AcceptedIsSound, EncodedIsAccepted, StartReadsBack, AddReadsBack, InverseReadsBack, InverseTwice, ReportReadsBack, FirstHolds, writerRows, RefusedWriterChangesNothing, WriterKeepsTheRest, NumberTells}
+use Rattle.record_format.specs.Promises.{NoneHolds, RefusedByFirstRow, AcceptedByNoRow, WellFormed, AcceptedIsSound, EncodedIsAccepted, StartReadsBack, AddReadsBack, InverseReadsBack, InverseTwice, ReportReadsBack, FirstHolds, writerRows, RefusedWriterChangesNothing, WriterKeepsTheRest, NumberTells}
 use Rattle.record_format.specs.declared.Report.{Report}
 use Rattle.record_format.specs.declared.Refusal.{Refusal}
 use Rattle.record_format.specs.declared.Refusal.the-variants.{Short, WrongMark, QubitCount, GateCount, UnknownKind, QubitRange, SpareByte, BufferShort}
@@ -72,7 +72,7 @@ accepted-by-no-row s = (
 )
 
 -- a record that no row stops is within the limits and is the record of its n and gates
-sound : (s : List ℕ) → first (recordRows s) ≡ none → Sound s (qubits s) (gates s)
+sound : (s : List ℕ) → first (recordRows s) ≡ none → WellFormed s (qubits s) (gates s)
 sound s good =
     let head = good-head s good in
     let same = length-gates s (head .whole) in

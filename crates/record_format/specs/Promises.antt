@@ -37,7 +37,7 @@ abbrev pub AcceptedByNoRow : Type 0
 AcceptedByNoRow = (s : List ℕ) → (read s ≡ accepted (qubits s) (gates s)) ↔ NoneHolds (recordRows s)
 
 -- an accepted record is within the limits and is, byte for byte, the record of its n and gates
-pub record Sound (s : List ℕ) (n : ℕ) (gs : List Gate) : Type 0 where
+pub record WellFormed (s : List ℕ) (n : ℕ) (gs : List Gate) : Type 0 where
   pub some-qubit : 1 ≤ n
   pub few-qubits : n ≤ mostQubits
   pub few-gates : length gs ≤ mostGates
@@ -47,7 +47,7 @@ pub record Sound (s : List ℕ) (n : ℕ) (gs : List Gate) : Type 0 where
 
 -- every accepted record is so
 abbrev pub AcceptedIsSound : Type 0
-AcceptedIsSound = (s : List ℕ) (n : ℕ) (gs : List Gate) → read s ≡ accepted n gs → Sound s n gs
+AcceptedIsSound = (s : List ℕ) (n : ℕ) (gs : List Gate) → read s ≡ accepted n gs → WellFormed s n gs
 
 -- the record of n and gates within the limits is accepted, whatever follows it, and reads back as n and these gates
 abbrev pub EncodedIsAccepted : Type 0

@@ -4,7 +4,7 @@ use mathlib.Core.Path.{_≡_, refl, _∙_}
 use native.Mathlib.Omega.{arith}
 use denote.Ref.{now}
 use Rattle.record_format.specs.Gate.{inverseList}
-use Rattle.phase_sum_terms.specs.Unmerged.{gatesIn, joinedIn}
+use Rattle.phase_sum_terms.specs.Unmerged.{gatesIn, miterIn}
 use Rattle.phase_sum_terms.proofs.Running.{start-fits, half-run, last-run, all-variables, built}
 use borrow.Author.Needs.{needs}
 use Rattle.phase_sum_building.proofs.build.Statement.{statement}
@@ -116,7 +116,7 @@ returns c =
     last-run (inverseList (gatesIn (now (a .second)))) (f .result) half (w .ensures)
     (record { wires = kept₁ .0; flips = kept₁ .1 .0; sets = kept₁ .1 .1 .0; coeffs = kept₁ .1 .1 .1 .0 })
     in
-    built (joinedIn (now (a .first)) (now (a .second))) whole (c .before .before .before .before .canonical .ensures) (c .before .before .before .before .before .before .before .path-variables .ensures)
+    built (miterIn (now (a .first)) (now (a .second))) whole (c .before .before .before .before .canonical .ensures) (c .before .before .before .before .before .before .before .path-variables .ensures)
 
 pub build-spec : {M : Type 1} → statement M
 build-spec =

@@ -1,4 +1,4 @@
--- `phase_sum::building::both` meets its contract. That two bits differ is their exclusive or.
+-- `phase_sum_gates::both` meets its contract. That two bits differ is their exclusive or.
 -- Assumes nothing.
 use borrow.Author.Needs.{needs}
 use mathlib.Core.Bool.{xor}

@@ -1,4 +1,4 @@
--- `phase_sum::building::put_phase` meets its contract.
+-- `phase_sum_gates::put_phase` meets its contract.
 -- Assumes nothing.
 use mathlib.Core.Path.{refl}
 use borrow.Author.Needs.{needs}

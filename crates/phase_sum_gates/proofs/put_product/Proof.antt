@@ -1,4 +1,4 @@
--- `phase_sum::building::put_product` meets its contract. Each call of `put_phase` leaves the workspaces as long as they were,
+-- `phase_sum_gates::put_product` meets its contract. Each call of `put_phase` leaves the workspaces as long as they were,
 -- with one term more in them.
 -- Assumes nothing.
 use Prim.Native.Nat.{_+_, _≤_}

@@ -1,4 +1,4 @@
--- `phase_sum::stepping::coeff_with` meets its contract: what `holds` answers is the test of the definition.
+-- `phase_sum_stepping::coeff_with` meets its contract: what `holds` answers is the test of the definition.
 -- Assumes nothing.
 use borrow.Author.Needs.{needs}
 use Rattle.phase_sum_stepping.proofs.coeff_with.Statement.{statement}

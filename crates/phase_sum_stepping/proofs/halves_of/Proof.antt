@@ -1,4 +1,4 @@
--- `phase_sum::stepping::halves_of` meets its contract. The loop's invariant: the sum mod 8 and the set are those of the first i
+-- `phase_sum_stepping::halves_of` meets its contract. The loop's invariant: the sum mod 8 and the set are those of the first i
 -- terms. The measure is how many terms are left.
 -- Assumes nothing.
 use mathlib.Core.Path.{_≡_, refl}

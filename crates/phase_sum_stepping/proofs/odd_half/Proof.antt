@@ -1,4 +1,4 @@
--- `phase_sum::stepping::odd_half` meets its contract: the tests are those of the definition.
+-- `phase_sum_stepping::odd_half` meets its contract: the tests are those of the definition.
 -- Assumes nothing.
 use borrow.Author.Tests.{eq-eqb, ne-eqb}
 use borrow.Author.Needs.{needs}

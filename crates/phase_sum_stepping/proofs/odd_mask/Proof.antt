@@ -1,4 +1,4 @@
--- `phase_sum::stepping::odd_mask` meets its contract. The loop's invariant: the mask holds the variables that are in terms of odd
+-- `phase_sum_stepping::odd_mask` meets its contract. The loop's invariant: the mask holds the variables that are in terms of odd
 -- coefficient among the first i. The measure is how many terms are left.
 -- Assumes nothing.
 use mathlib.Core.Path.{_≡_, sym}

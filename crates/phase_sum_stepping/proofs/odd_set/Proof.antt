@@ -1,4 +1,4 @@
--- `phase_sum::stepping::odd_set` meets its contract: the test is that of the definition.
+-- `phase_sum_stepping::odd_set` meets its contract: the test is that of the definition.
 -- Assumes nothing.
 use borrow.Author.Tests.{eq-eqb, ne-eqb}
 use Rattle.phase_sum_stepping.proofs.odd_set.Statement.{statement}

@@ -1,4 +1,4 @@
--- `phase_sum::stepping::replace_in` meets its contract: what `holds` answers is the test of the definition, and `!=` of the
+-- `phase_sum_stepping::replace_in` meets its contract: what `holds` answers is the test of the definition, and `!=` of the
 -- constants is their exclusive or.
 -- Assumes nothing.
 use mathlib.Core.Bool.{xor}

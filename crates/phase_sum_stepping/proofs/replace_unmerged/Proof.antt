@@ -1,4 +1,4 @@
--- `phase_sum::stepping::replace_unmerged` meets its contract. The loop's invariant: the constant is that of the first i terms,
+-- `phase_sum_stepping::replace_unmerged` meets its contract. The loop's invariant: the constant is that of the first i terms,
 -- these have been sent, and the others are as they were. The measure is how many terms are left.
 -- Assumes nothing.
 use mathlib.Core.Path.{_≡_, sym}

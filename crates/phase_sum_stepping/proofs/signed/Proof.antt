@@ -1,4 +1,4 @@
--- `phase_sum::stepping::signed` meets its contract: a coefficient is negated where its set became complemented.
+-- `phase_sum_stepping::signed` meets its contract: a coefficient is negated where its set became complemented.
 -- Assumes nothing.
 use borrow.Author.Needs.{needs}
 use Rattle.phase_sum_stepping.proofs.signed.Statement.{statement}

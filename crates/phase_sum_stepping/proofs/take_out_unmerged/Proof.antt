@@ -1,4 +1,4 @@
--- `phase_sum::stepping::take_out_unmerged` meets its contract. The loop's invariant: y is out of the first i sets, and the others
+-- `phase_sum_stepping::take_out_unmerged` meets its contract. The loop's invariant: y is out of the first i sets, and the others
 -- are as they were. The measure is how many sets are left.
 -- Assumes nothing.
 use mathlib.Core.Path.{_≡_}

@@ -1,4 +1,4 @@
--- `phase_sum::stepping::turn_coeff` meets its contract: the test is that of the definition.
+-- `phase_sum_stepping::turn_coeff` meets its contract: the test is that of the definition.
 -- Assumes nothing.
 use borrow.Author.Tests.{eq-eqb, ne-eqb}
 use Rattle.phase_sum_stepping.proofs.turn_coeff.Statement.{statement}

@@ -1,4 +1,4 @@
--- `phase_sum::stepping::with_flip` meets its contract: a coefficient is added where its set became complemented.
+-- `phase_sum_stepping::with_flip` meets its contract: a coefficient is added where its set became complemented.
 -- Assumes nothing.
 use borrow.Author.Needs.{needs}
 use Rattle.phase_sum_stepping.proofs.with_flip.Statement.{statement}

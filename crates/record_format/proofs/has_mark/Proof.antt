@@ -1,4 +1,4 @@
--- `gate_list::has_mark` meets its contract: the first test decides the first half of `marked`, the second is the answer.
+-- `record_format::has_mark` meets its contract: the first test decides the first half of `marked`, the second is the answer.
 -- Assumes nothing.
 use borrow.Author.Needs.{needs}
 use borrow.Author.Tests.{eq-eqb, ne-eqb}

@@ -1,4 +1,4 @@
--- `gate_list::reporter::read_report` meets its contract: at each `return` the tests that led there say which row of `reportRows`
+-- `record_report::read_report` meets its contract: at each `return` the tests that led there say which row of `reportRows`
 -- is the first that holds.
 -- Assumes nothing.
 use borrow.Author.Needs.{needs}

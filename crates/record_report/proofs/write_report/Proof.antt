@@ -1,4 +1,4 @@
--- `gate_list::reporter::write_report` meets its contract: two tests are its two rows, and twelve stores from the front are the report.
+-- `record_report::write_report` meets its contract: two tests are its two rows, and twelve stores from the front are the report.
 -- Assumes nothing.
 use borrow.Author.Needs.{needs}
 use borrow.Author.Tests.{lt-ltb, le-ltb}

@@ -1,4 +1,4 @@
--- `gate_list::write_gate` meets its contract: three stores in a row are one piece put in at that place.
+-- `record_writing::write_gate` meets its contract: three stores in a row are one piece put in at that place.
 -- Assumes nothing.
 use borrow.Author.Needs.{needs}
 use native.Mathlib.Omega.{arith}

@@ -1,4 +1,4 @@
--- `gate_list::write_head` meets its contract: five stores from the front are the head.
+-- `record_writing::write_head` meets its contract: five stores from the front are the head.
 -- Assumes nothing.
 use borrow.Author.Needs.{needs}
 use native.Mathlib.Omega.{arith}

@@ -1,4 +1,4 @@
--- `comparison::judging::blocked_input` meets its contract: the lowest variable of the set's rest by 2^n is its lowest qubit, and
+-- `comparison_judging::judging::blocked_input` meets its contract: the lowest variable of the set's rest by 2^n is its lowest qubit, and
 -- below 16, so that the shifted 1 fits.
 -- Assumes nothing.
 use mathlib.Core.Path.{_≡_, sym, _∙_, ap}

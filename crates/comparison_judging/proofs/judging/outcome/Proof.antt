@@ -1,4 +1,4 @@
--- `comparison::judging::outcome` meets its contract: the ones of the set left are its members, 64 at most.
+-- `comparison_judging::judging::outcome` meets its contract: the ones of the set left are its members, 64 at most.
 -- Assumes nothing.
 use native.Mathlib.Omega.{arith}
 use lib.Count.{ones-le}

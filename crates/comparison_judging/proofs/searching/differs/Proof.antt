@@ -1,4 +1,4 @@
--- `comparison::searching::differs` meets its contract: at input 0 the terms add nothing, so the phase there is the constant.
+-- `comparison_judging::searching::differs` meets its contract: at input 0 the terms add nothing, so the phase there is the constant.
 -- Assumes nothing.
 use borrow.Author.Needs.{needs}
 use Rattle.comparison_types.proofs.SearchLaws.{differs-from}

@@ -1,4 +1,4 @@
--- `comparison::searching::search` meets its contract: the answer is that of the first weight that has one; where no coefficient is odd and
+-- `comparison_judging::searching::search` meets its contract: the answer is that of the first weight that has one; where no coefficient is odd and
 -- no input of weight 1 or 2 differs, none of weight 3 does.
 -- Assumes nothing.
 use native.Mathlib.Omega.{arith}

@@ -1,4 +1,4 @@
--- `comparison::searching::weight_one` meets its contract. The loop's invariant: no input with one of the first i qubits differs. The measure is
+-- `comparison_judging::searching::weight_one` meets its contract. The loop's invariant: no input with one of the first i qubits differs. The measure is
 -- how many qubits are left.
 -- Assumes nothing.
 use mathlib.Core.Path.{_≡_, refl, sym, _∙_}

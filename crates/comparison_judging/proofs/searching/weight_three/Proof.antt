@@ -1,4 +1,4 @@
--- `comparison::searching::weight_three` meets its contract. The outermost loop's invariant: nothing is found yet, and no input with three of
+-- `comparison_judging::searching::weight_three` meets its contract. The outermost loop's invariant: nothing is found yet, and no input with three of
 -- the first i qubits differs. The middle one's: nor one with qubit i and two of the first j. The innermost one's: nor one with qubits i and
 -- j and one of the first k. The measures are how many qubits are left.
 -- Assumes nothing.

@@ -1,4 +1,4 @@
--- `comparison::searching::weight_two` meets its contract. The outer loop's invariant: no input with two of the first i qubits differs. The
+-- `comparison_judging::searching::weight_two` meets its contract. The outer loop's invariant: no input with two of the first i qubits differs. The
 -- inner one's: nor one with qubit i and one of the first j. The measures are how many qubits are left.
 -- Assumes nothing.
 use mathlib.Core.Path.{_≡_, refl, sym, _∙_}

@@ -1,4 +1,4 @@
--- `comparison::pinning::is_zero` meets its contract: the definition's test, its first part decided by the branch.
+-- `comparison_reducing::pinning::is_zero` meets its contract: the definition's test, its first part decided by the branch.
 -- Assumes nothing.
 use borrow.Author.Tests.{eq-eqb, ne-eqb}
 use Rattle.comparison_reducing.proofs.pinning.is_zero.Statement.{statement}

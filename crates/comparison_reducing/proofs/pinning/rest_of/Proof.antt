@@ -1,4 +1,4 @@
--- `comparison::pinning::rest_of` meets its contract.
+-- `comparison_reducing::pinning::rest_of` meets its contract.
 -- Assumes nothing.
 use borrow.Author.Needs.{needs}
 use Rattle.phase_sum_meaning.specs.Parity.{rest}

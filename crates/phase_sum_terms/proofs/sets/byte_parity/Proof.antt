@@ -1,4 +1,4 @@
--- `phase_sum::sets::byte_parity` meets its contract: the table lists the parities of all the bytes, which antt computes.
+-- `phase_sum_terms::sets::byte_parity` meets its contract: the table lists the parities of all the bytes, which antt computes.
 -- Assumes nothing.
 use mathlib.Core.Path.{_∙_, ap}
 use mathlib.Core.Bool.{xor}

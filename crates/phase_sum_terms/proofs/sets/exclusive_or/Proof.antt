@@ -1,4 +1,4 @@
--- `phase_sum::sets::exclusive_or` meets its contract: the machine's exclusive or is that of sets.
+-- `phase_sum_terms::sets::exclusive_or` meets its contract: the machine's exclusive or is that of sets.
 -- Assumes nothing.
 use Rattle.phase_sum_terms.proofs.Words.{xor-sets}
 use Rattle.phase_sum_terms.proofs.sets.exclusive_or.Statement.{statement}

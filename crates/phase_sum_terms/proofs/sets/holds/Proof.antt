@@ -1,4 +1,4 @@
--- `phase_sum::sets::holds` meets its contract: the set is shifted down until the variable's bit is the lowest.
+-- `phase_sum_terms::sets::holds` meets its contract: the set is shifted down until the variable's bit is the lowest.
 -- Assumes nothing.
 use borrow.Author.Needs.{needs}
 use Rattle.phase_sum_terms.proofs.Words.{shifted-bit}

@@ -1,4 +1,4 @@
--- `phase_sum::sets::parity` meets its contract. The loop's invariant: the parity of the bytes passed and that of the bits left
+-- `phase_sum_terms::sets::parity` meets its contract. The loop's invariant: the parity of the bytes passed and that of the bits left
 -- make up the parity of the set. The measure is the word of the bits left.
 -- Assumes nothing.
 use mathlib.Core.Path.{_≡_, sym, _∙_}

@@ -1,4 +1,4 @@
--- `phase_sum::sets::single` meets its contract: the shifted 1 fits, so it is the power of 2.
+-- `phase_sum_terms::sets::single` meets its contract: the shifted 1 fits, so it is the power of 2.
 -- Assumes nothing.
 use borrow.Author.Needs.{needs}
 use Rattle.phase_sum_terms.proofs.Words.{shifted-one}

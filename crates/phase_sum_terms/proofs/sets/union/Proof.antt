@@ -1,4 +1,4 @@
--- `phase_sum::sets::union` meets its contract: the machine's or has the bits of both words.
+-- `phase_sum_terms::sets::union` meets its contract: the machine's or has the bits of both words.
 -- Assumes nothing.
 use Rattle.phase_sum_terms.proofs.Words.{bit-or}
 use Rattle.phase_sum_terms.proofs.sets.union.Statement.{statement}

@@ -1,4 +1,4 @@
--- `phase_sum::terms::append` meets its contract. Two stores put the term behind those in use.
+-- `phase_sum_terms::terms::append` meets its contract. Two stores put the term behind those in use.
 -- Assumes nothing.
 use borrow.Author.Needs.{needs}
 use denote.Ref.{now}

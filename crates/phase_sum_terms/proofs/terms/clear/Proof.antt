@@ -1,4 +1,4 @@
--- `phase_sum::terms::clear` meets its contract. Zeros from the first place on are no terms over a front.
+-- `phase_sum_terms::terms::clear` meets its contract. Zeros from the first place on are no terms over a front.
 -- Assumes nothing.
 use borrow.Author.Needs.{needs}
 use mathlib.Core.Path.{refl}

@@ -1,4 +1,4 @@
--- `phase_sum::terms::phase_at` meets its contract. The loop's invariant: the sum is the phase that the first i terms give, mod 8.
+-- `phase_sum_terms::terms::phase_at` meets its contract. The loop's invariant: the sum is the phase that the first i terms give, mod 8.
 -- The measure is how many terms are left.
 -- Assumes nothing.
 use mathlib.Core.Path.{_≡_, _∙_}

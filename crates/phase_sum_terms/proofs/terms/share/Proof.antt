@@ -1,4 +1,4 @@
--- `phase_sum::terms::share` meets its contract. The test is the term's parity.
+-- `phase_sum_terms::terms::share` meets its contract. The test is the term's parity.
 -- Assumes nothing.
 use borrow.Author.Needs.{needs}
 use Rattle.phase_sum_terms.proofs.terms.share.Statement.{statement}

@@ -1,4 +1,4 @@
--- `phase_sum::terms::zero_words` meets its contract. The loop's invariant: zeros stand from the first place up to i, and the rest
+-- `phase_sum_terms::terms::zero_words` meets its contract. The loop's invariant: zeros stand from the first place up to i, and the rest
 -- is as it was. The measure is how many places are left.
 -- Assumes nothing.
 use mathlib.Core.Path.{_≡_, refl}

@@ -1,4 +1,4 @@
--- `gate_list::gate::check_gate` meets its contract: at each `return` the tests that led there say which row of `gateRows` is
+-- `record_format::gate::check_gate` meets its contract: at each `return` the tests that led there say which row of `gateRows` is
 -- the first that holds.
 -- Assumes nothing.
 use borrow.Author.Tests.{le-ltb, lt-ltb, le-leb, lt-leb, eq-eqb, ne-eqb}

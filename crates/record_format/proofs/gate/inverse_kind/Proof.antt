@@ -1,4 +1,4 @@
--- `gate_list::inverter::inverse_kind` meets its contract: each arm is the case of `inverseNumber` with the same test.
+-- `record_format::gate::inverse_kind` meets its contract: each arm is the case of `inverseNumber` with the same test.
 -- Assumes nothing.
 use borrow.Author.Tests.{ne-eqb}
 use Rattle.record_format.specs.Gate.{inverseNumber}

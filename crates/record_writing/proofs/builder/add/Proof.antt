@@ -1,4 +1,4 @@
--- `gate_list::builder::add` meets its contract: the record's check, the test for a full record and the gate's check each turn down
+-- `record_writing::builder::add` meets its contract: the record's check, the test for a full record and the gate's check each turn down
 -- by their own row, and behind them `append` writes.
 -- Assumes nothing.
 use borrow.Author.Needs.{needs}

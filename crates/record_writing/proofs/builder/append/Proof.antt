@@ -1,4 +1,4 @@
--- `gate_list::builder::append` meets its contract: one test on the buffer's length, then a new head and the gate behind the old ones.
+-- `record_writing::builder::append` meets its contract: one test on the buffer's length, then a new head and the gate behind the old ones.
 -- Assumes nothing.
 use borrow.Author.Needs.{needs}
 use mathlib.Core.Path.{refl}

@@ -1,4 +1,4 @@
--- `gate_list::builder::start` meets its contract: the three tests are its rows in turn, and the empty record is its head.
+-- `record_writing::builder::start` meets its contract: the three tests are its rows in turn, and the empty record is its head.
 -- Assumes nothing.
 use borrow.Author.Needs.{needs}
 use borrow.Author.Tests.{eq-eqb, ne-eqb, lt-ltb, le-ltb}

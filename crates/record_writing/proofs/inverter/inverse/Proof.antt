@@ -1,4 +1,4 @@
--- `gate_list::inverter::inverse` meets its contract: the record's check and the test on the buffer's length turn down by their rows,
+-- `record_writing::inverter::inverse` meets its contract: the record's check and the test on the buffer's length turn down by their rows,
 -- and behind them the head and the inverted gates are written.
 -- Assumes nothing.
 use borrow.Author.Needs.{needs}

@@ -1,4 +1,4 @@
--- `gate_list::inverter::write_inverse` meets its contract. The loop's invariant: the first i gates stand inverted at the other end,
+-- `record_writing::inverter::write_inverse` meets its contract. The loop's invariant: the first i gates stand inverted at the other end,
 -- and the rest of the buffer is as it was. The measure is how many gates are left.
 -- Assumes nothing.
 use native.Mathlib.Omega.{arith}
