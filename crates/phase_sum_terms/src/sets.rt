@@ -324,7 +324,8 @@ pub fn without(set: u64, v: u32) -> u64
     ensures { λ r. ⌜ r ≡ outOf v set ⌝ }
 {
     if holds(set, v) {
-        return exclusive_or(set, single(v));
+        let one = single(v);
+        return exclusive_or(set, one);
     }
     set
 }
