@@ -14,12 +14,12 @@ use comparison_types::End;
 use comparison_types::Outcome;
 use comparison_types::Verdict;
 use phase_sum_terms::Found;
+use phase_sum_terms::Parity;
 use phase_sum_terms::Sum;
-use phase_sum_terms::Wire;
 use phase_sum_terms::sets::lowest;
 
 // An input that makes a blocked parity 1: 0 if its constant is 1, else the input that holds only its lowest qubit.
-fn blocked_input(by: Wire, n: usize) -> u16
+fn blocked_input(by: Parity, n: usize) -> u16
     requires { ⌜ n ≤ 16 ⌝ }
     ensures { λ r. ⌜ r ≡ blockedInput n (parityOf by) ⌝ }
 {
@@ -36,7 +36,7 @@ fn blocked_input(by: Wire, n: usize) -> u16
 
 // The verdict and the inputs, with the counts and the variables left.
 fn outcome(sum: Sum, counts: Counts, verdict: Verdict, first: u16, second: u16) -> Outcome
-    ensures { λ r. ⌜ ((l : Lent) (by : Wire) → resultOf r ≡ result (verdictOf verdict) first second (endOf (unblocked by sum counts) l)) ⌝ }
+    ensures { λ r. ⌜ ((l : Lent) (by : Parity) → resultOf r ≡ result (verdictOf verdict) first second (endOf (unblocked by sum counts) l)) ⌝ }
 {
     Outcome {
         verdict,
@@ -53,7 +53,7 @@ fn outcome(sum: Sum, counts: Counts, verdict: Verdict, first: u16, second: u16) 
 // No path variable is left: different unless pins and sums agree, else the search decides.
 fn searched(sum: Sum, counts: Counts, n: usize, sets: &[u64], coeffs: &[u8]) -> Outcome
     requires { ⌜ (n ≤ 16) × (sum .phase .count ≤ length (now sets)) × (sum .phase .count ≤ length (now coeffs)) ⌝ }
-    ensures { λ r. ⌜ ((ws : List ℕ) (fs : List Bool) (by : Wire) → resultOf r ≡ searched 0 n (endOf (unblocked by sum counts) (slices ws fs (now (sets .entry)) (now (coeffs .entry))))) ⌝ }
+    ensures { λ r. ⌜ ((ws : List ℕ) (fs : List Bool) (by : Parity) → resultOf r ≡ searched 0 n (endOf (unblocked by sum counts) (slices ws fs (now (sets .entry)) (now (coeffs .entry))))) ⌝ }
 {
     let phase = sum.phase;
     if counts.pins != counts.sums {

@@ -11,38 +11,38 @@ use comparison_types::Counts;
 use comparison_types::End;
 use phase_sum_stepping::replace;
 use phase_sum_terms::Found;
+use phase_sum_terms::Parity;
 use phase_sum_terms::Sum;
-use phase_sum_terms::Wire;
 use phase_sum_terms::sets::exclusive_or;
 use phase_sum_terms::sets::lowest_in;
 use phase_sum_terms::sets::single;
 use phase_sum_terms::wires::wire;
 
 // The parity of output wire q and input q together.
-fn mismatch(ws: &[u64], fs: &[bool], q: usize) -> Wire
+fn mismatch(ws: &[u64], fs: &[bool], q: usize) -> Parity
     requires { ⌜ (q < 64) × (q < length (now ws)) × (q < length (now fs)) ⌝ }
     ensures { λ r. ⌜ parityOf r ≡ getD (zipWires (now (ws .entry)) (now (fs .entry))) q (of 0) ⊕ input 0 q ⌝ }
 {
     let w = wire(ws, fs, q);
-    Wire {
+    Parity {
         set: exclusive_or(w.set, single(q as u32)),
         flipped: w.flipped,
     }
 }
 
 // The rest of a parity without a variable that it holds.
-pub fn rest_of(w: Wire, z: u32) -> Wire
+pub fn rest_of(w: Parity, z: u32) -> Parity
     requires { ⌜ z < 64 ⌝ }
     ensures { λ r. ⌜ parityOf r ≡ rest z (parityOf w) ⌝ }
 {
-    Wire {
+    Parity {
         set: exclusive_or(w.set, single(z)),
         flipped: w.flipped,
     }
 }
 
 // Is the parity constantly 0?
-fn is_zero(w: Wire) -> bool
+fn is_zero(w: Parity) -> bool
     ensures { λ r. ⌜ r ≡ isZero (parityOf w) ⌝ }
 {
     if w.set == 0 {
@@ -101,7 +101,7 @@ pub fn pin(sum: Sum, ws: &mut [u64], fs: &mut [bool], sets: &mut [u64], coeffs: 
 {
     let mut end = End {
         blocked: false,
-        by: Wire {
+        by: Parity {
             set: 0,
             flipped: false,
         },

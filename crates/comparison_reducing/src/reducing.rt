@@ -17,8 +17,8 @@ use phase_sum_stepping::odd_mask;
 use phase_sum_stepping::take_out;
 use phase_sum_stepping::turn_out;
 use phase_sum_terms::Found;
+use phase_sum_terms::Parity;
 use phase_sum_terms::Sum;
-use phase_sum_terms::Wire;
 use phase_sum_terms::sets::lowest_in;
 use phase_sum_terms::sets::lowest_out;
 use phase_sum_terms::sets::without;
@@ -68,7 +68,7 @@ fn goes(sum: Sum, counts: Counts) -> End
 {
     End {
         blocked: false,
-        by: Wire {
+        by: Parity {
             set: 0,
             flipped: false,
         },
@@ -78,10 +78,10 @@ fn goes(sum: Sum, counts: Counts) -> End
 }
 
 // What must be 0 for a join: L with constant C/2.
-fn constraint_of(c: u8, l: u64) -> Wire
+fn constraint_of(c: u8, l: u64) -> Parity
     ensures { λ r. ⌜ parityOf r ≡ constrained c l ⌝ }
 {
-    Wire {
+    Parity {
         set: l,
         flipped: c / 2 % 2 == 1,
     }

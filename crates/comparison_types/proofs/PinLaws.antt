@@ -17,7 +17,7 @@ use Rattle.phase_sum_meaning.specs.Building.{PathSum, input}
 use Rattle.phase_sum_meaning.specs.Stepping.{replace}
 use Rattle.phase_sum_meaning.proofs.VariableLaws.{firstSuch-some}
 use Rattle.phase_sum_terms.specs.Workspace.{parityOf, Lent, members, sumOf, Became, Sized}
-use Rattle.phase_sum_terms.specs.declared.Wire.{Wire}
+use Rattle.phase_sum_terms.specs.declared.Parity.{Parity as ParityWord}
 use Rattle.phase_sum_terms.specs.declared.Sum.{Sum}
 use Rattle.phase_sum_terms.proofs.Members.{member-held}
 use Rattle.phase_sum_terms.proofs.Running.{AsLong, long-after}
@@ -30,7 +30,7 @@ use Rattle.comparison_types.specs.declared.End.{End}
 
 -- a wire with input q added
 pub with-input :
-    (w : Wire) (q : ℕ) →
+    (w : ParityWord) (q : ℕ) →
     _≡_ {A = Parity} (record { vars = w .set △ single q; flipped = w .flipped }) (parityOf w ⊕ input 0 q)
 unfolding _⊕_ input
 with-input w q = rw (bit-zero q, xor-falseʳ (w .flipped))
@@ -62,7 +62,7 @@ pin-free m q p s c false is e z = rw is (rw (rw is at e, pinFrom) (rw (rw is at 
 
 -- a qubit pinned by its mismatch w, which holds the variable z
 pub pinned-found :
-    (q z : ℕ) (w v : Wire) (s : Sum) (c d : Counts) (r : Sum) {m : ℕ} {l l′ : Lent} →
+    (q z : ℕ) (w v : ParityWord) (s : Sum) (c d : Counts) (r : Sum) {m : ℕ} {l l′ : Lent} →
     q < length (l .wires) →
     c .pins ≤ q →
     Sized s l →
@@ -85,7 +85,7 @@ pinned-found q z w v s c d r {l = l} {l′ = l′} h few sized is e v-is became 
 
 -- a qubit whose mismatch w holds no variable left
 pub pinned-free :
-    (q : ℕ) (w : Wire) (b : Bool) (s : Sum) (c : Counts) {l : Lent} →
+    (q : ℕ) (w : ParityWord) (b : Bool) (s : Sum) (c : Counts) {l : Lent} →
     c .pins ≤ q →
     Sized s l →
     parityOf w ≡ mismatch 0 q (sumOf s l) →
@@ -113,7 +113,7 @@ pub record PinnedTo (q : ℕ) (s : Sum) (e : End) (l l′ : Lent) : Type 0 where
 
 -- before the first qubit
 pub none-pinned :
-    (s : Sum) (w : Wire) {l : Lent} → Sized s l → PinnedTo 0 s (record { blocked = false; by = w; sum = s; counts = noSteps }) l l
+    (s : Sum) (w : ParityWord) {l : Lent} → Sized s l → PinnedTo 0 s (record { blocked = false; by = w; sum = s; counts = noSteps }) l l
 none-pinned s w {l} sized =
     let whole : length (l .wires) - 0 ≡ length (l .wires) = omega arith in
     record {

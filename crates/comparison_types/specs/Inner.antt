@@ -17,7 +17,7 @@ use Rattle.phase_sum_terms.specs.Workspace.{parityOf, Lent, members, sumOf, Siz
 use Rattle.comparison_meaning.specs.Reduction as reduction
 use Rattle.comparison_types.specs.Call.{numberOf}
 use Rattle.phase_sum_terms.specs.declared.Sum.{Sum}
-use Rattle.phase_sum_terms.specs.declared.Wire.{Wire}
+use Rattle.phase_sum_terms.specs.declared.Parity.{Parity as ParityWord}
 use Rattle.comparison_types.specs.declared.Answer.{Answer}
 use Rattle.comparison_types.specs.declared.Answer.the-variants.{Compared, Refused}
 use Rattle.comparison_types.specs.declared.Counts.{Counts}
@@ -41,7 +41,7 @@ blockedBy true q = some q
 blockedBy false q = none
 
 -- an end that no parity blocks
-abbrev pub unblocked : Wire → Sum → Counts → End
+abbrev pub unblocked : ParityWord → Sum → Counts → End
 unblocked w s c = record { blocked = false; by = w; sum = s; counts = c }
 
 -- the end that an end and its slices stand for

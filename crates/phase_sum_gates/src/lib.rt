@@ -11,9 +11,9 @@ ghost use Rattle.phase_sum_meaning.specs.Building.{PathSum};
 ghost use Rattle.phase_sum_terms.specs.Workspace.{held, parityOf, zipWires, Stored, lent, before, after};
 ghost use Rattle.phase_sum_terms.specs.Unmerged.{phaseTerm, productTerms, appendGate, sumIn, Runnable, Leaves, Runs, movesOnly, Moves};
 ghost use Rattle.phase_sum_terms.specs.Inner.{onH, phaseConstant, productConstant, appendPhase};
+use phase_sum_terms::Parity;
 use phase_sum_terms::Phase;
 use phase_sum_terms::Run;
-use phase_sum_terms::Wire;
 use phase_sum_terms::sets::exclusive_or;
 use phase_sum_terms::sets::single;
 use phase_sum_terms::terms::add;
@@ -24,17 +24,17 @@ use phase_sum_terms::wires::wire;
 use record_format::gate;
 
 // The exclusive or of two wires.
-pub fn both(u: Wire, v: Wire) -> Wire
+pub fn both(u: Parity, v: Parity) -> Parity
     ensures { λ r. ⌜ parityOf r ≡ parityOf u ⊕ parityOf v ⌝ }
 {
-    Wire {
+    Parity {
         set: exclusive_or(u.set, v.set),
         flipped: u.flipped != v.flipped,
     }
 }
 
 // A phase c on a wire, as one term more: on a complemented parity, c to the constant and the term −c.
-pub fn put_phase(phase: Phase, c: u8, w: Wire, sets: &mut [u64], coeffs: &mut [u8]) -> Phase
+pub fn put_phase(phase: Phase, c: u8, w: Parity, sets: &mut [u64], coeffs: &mut [u8]) -> Phase
     requires { ⌜ (phase .count < length (now sets)) × (phase .count < length (now coeffs)) ⌝ }
     ensures constant { λ r. ⌜ r .constant ≡ phaseConstant c (parityOf w) (phase .constant) ⌝ }
     ensures terms { λ r. ⌜ Stored (phase .count) (held (phase .count) (now (sets .entry)) (now (coeffs .entry)) ++ phaseTerm c (parityOf w) ∷ []) (r .count) (now (sets .entry)) (now (coeffs .entry)) (now (sets .exit)) (now (coeffs .exit)) ⌝ }
@@ -53,7 +53,7 @@ pub fn put_phase(phase: Phase, c: u8, w: Wire, sets: &mut [u64], coeffs: &mut [u
 }
 
 // 4 on the product of two wires, by 4uv = 2u + 2v − 2(u ⊕ v).
-pub fn put_product(phase: Phase, u: Wire, v: Wire, sets: &mut [u64], coeffs: &mut [u8]) -> Phase
+pub fn put_product(phase: Phase, u: Parity, v: Parity, sets: &mut [u64], coeffs: &mut [u8]) -> Phase
     requires { ⌜ (phase .count + 3 ≤ length (now sets)) × (phase .count + 3 ≤ length (now coeffs)) ⌝ }
     ensures constant { λ r. ⌜ r .constant ≡ productConstant (parityOf u) (parityOf v) (phase .constant) ⌝ }
     ensures terms { λ r. ⌜ Stored (phase .count) (held (phase .count) (now (sets .entry)) (now (coeffs .entry)) ++ productTerms (parityOf u) (parityOf v)) (r .count) (now (sets .entry)) (now (coeffs .entry)) (now (sets .exit)) (now (coeffs .exit)) ⌝ }
@@ -196,7 +196,7 @@ fn hadamard(
 {
     let old = run.phase;
     let next = run.next;
-    let new = Wire {
+    let new = Parity {
         set: single(next),
         flipped: false,
     };

@@ -13,9 +13,9 @@ ghost use Rattle.phase_sum_meaning.specs.Stepping.{replace, outOf, halfSum, odd
 ghost use Rattle.phase_sum_terms.specs.Workspace.{held, parityOf, zipWires, Stored, lent, before, after, Stands, Changed, TermsChanged};
 ghost use Rattle.phase_sum_terms.specs.Inner.{sentTo};
 use phase_sum_merging::canonical;
+use phase_sum_terms::Parity;
 use phase_sum_terms::Phase;
 use phase_sum_terms::Sum;
-use phase_sum_terms::Wire;
 use phase_sum_terms::sets::exclusive_or;
 use phase_sum_terms::sets::holds;
 use phase_sum_terms::sets::single;
@@ -28,12 +28,12 @@ use phase_sum_terms::wires::set_wire;
 use phase_sum_terms::wires::wire;
 
 // A wire with the variable z replaced by the parity p.
-fn replace_in(w: Wire, z: u32, p: Wire) -> Wire
+fn replace_in(w: Parity, z: u32, p: Parity) -> Parity
     requires { ⌜ z < 64 ⌝ }
     ensures { λ r. ⌜ parityOf r ≡ replaceIn z (parityOf p) (parityOf w) ⌝ }
 {
     if holds(w.set, z) {
-        return Wire {
+        return Parity {
             set: exclusive_or(exclusive_or(w.set, single(z)), p.set),
             flipped: w.flipped != p.flipped,
         };
@@ -42,7 +42,7 @@ fn replace_in(w: Wire, z: u32, p: Wire) -> Wire
 }
 
 // The variable z replaced by the parity p in every wire.
-fn replace_in_wires(ws: &mut [u64], fs: &mut [bool], z: u32, p: Wire)
+fn replace_in_wires(ws: &mut [u64], fs: &mut [bool], z: u32, p: Parity)
     requires { ⌜ (z < 64) × (length (now fs) ≡ length (now ws)) ⌝ }
     ensures { λ _. ⌜ zipWires (now (ws .exit)) (now (fs .exit)) ≡ map (replaceIn z (parityOf p)) (zipWires (now (ws .entry)) (now (fs .entry))) ⌝ }
 {
@@ -75,7 +75,7 @@ fn with_flip(constant: u8, coeff: u8, flipped: bool) -> u8
 }
 
 // The variable z replaced by the parity p in every term, unmerged. Returns the constant.
-fn replace_unmerged(sets: &mut [u64], coeffs: &mut [u8], phase: Phase, z: u32, p: Wire) -> u8
+fn replace_unmerged(sets: &mut [u64], coeffs: &mut [u8], phase: Phase, z: u32, p: Parity) -> u8
     requires { ⌜ (z < 64) × (phase .count ≤ length (now sets)) × (phase .count ≤ length (now coeffs)) ⌝ }
     ensures constant { λ r. ⌜ r ≡ rebuild (λ u. replaceIn z (parityOf p) (of u)) (phase .constant) (held (phase .count) (now (sets .entry)) (now (coeffs .entry))) .constant ⌝ }
     ensures terms { λ _. ⌜ Stored (phase .count) (map (sentTo (λ u. replaceIn z (parityOf p) (of u))) (held (phase .count) (now (sets .entry)) (now (coeffs .entry)))) (phase .count) (now (sets .entry)) (now (coeffs .entry)) (now (sets .exit)) (now (coeffs .exit)) ⌝ }
@@ -86,7 +86,7 @@ fn replace_unmerged(sets: &mut [u64], coeffs: &mut [u8], phase: Phase, z: u32, p
     while i < count {
         let coeff = coeffs[i];
         let new = replace_in(
-            Wire {
+            Parity {
                 set: sets[i],
                 flipped: false,
             },
@@ -105,7 +105,7 @@ fn replace_unmerged(sets: &mut [u64], coeffs: &mut [u8], phase: Phase, z: u32, p
 pub fn replace(
     sum: Sum,
     z: u32,
-    p: Wire,
+    p: Parity,
     ws: &mut [u64],
     fs: &mut [bool],
     sets: &mut [u64],
@@ -193,7 +193,7 @@ pub fn join_out(
     sum: Sum,
     y: u32,
     z: u32,
-    p: Wire,
+    p: Parity,
     ws: &mut [u64],
     fs: &mut [bool],
     sets: &mut [u64],

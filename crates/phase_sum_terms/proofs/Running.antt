@@ -25,7 +25,7 @@ use Rattle.phase_sum_terms.specs.Workspace.{held, setsOf, coeffsOf, over
 use Rattle.phase_sum_terms.specs.Unmerged.{gatesIn, phaseTerm, productTerms, gateTerms, appendGate, appendGates, sumIn, Runnable, Leaves, movesOnly, Moves, placesTaken, Builds, Buildable}
 use Rattle.phase_sum_terms.specs.Inner.{phaseConstant, productConstant, appendPhase, onH}
 use Rattle.phase_sum_terms.specs.declared.Phase.{Phase}
-use Rattle.phase_sum_terms.specs.declared.Wire.{Wire}
+use Rattle.phase_sum_terms.specs.declared.Parity.{Parity as ParityWord}
 use Rattle.phase_sum_terms.specs.declared.Run.{Run}
 use Rattle.phase_sum_terms.proofs.Storing.{length-held, over-grown, stored-same, stored-held, stored-grown, stored-again}
 use Rattle.phase_sum_terms.proofs.Merging.{merged-build, merged-gates, mergedSum}
@@ -82,7 +82,7 @@ next-behind n next l = rw from-length (omega arith)
 
 -- what a phase on wire q leaves
 pub diagonal-leaves :
-    (s : Run) (c q : ℕ) (l : Lent) (w : Wire) (p : Phase) {ss′ cs′ : List ℕ} →
+    (s : Run) (c q : ℕ) (l : Lent) (w : ParityWord) (p : Phase) {ss′ cs′ : List ℕ} →
     length (l .wires) ≤ s .next →
     parityOf w ≡ wire q (sumIn s l) →
     p .constant ≡ phaseConstant c (parityOf w) (s .phase .constant) →
@@ -100,7 +100,7 @@ diagonal-leaves s c q l w p started e constant terms =
 
 -- what Y leaves
 pub y-leaves :
-    (s : Run) (q : ℕ) (l : Lent) (fs′ : List Bool) (w : Wire) (p : Phase) (k : ℕ) {ss′ cs′ : List ℕ} →
+    (s : Run) (q : ℕ) (l : Lent) (fs′ : List Bool) (w : ParityWord) (p : Phase) (k : ℕ) {ss′ cs′ : List ℕ} →
     length (l .wires) ≤ s .next →
     parityOf w ≡ wire q (sumIn s l) →
     p .constant ≡ phaseConstant 4 (parityOf w) (s .phase .constant) →
@@ -123,7 +123,7 @@ y-leaves s q l fs′ w p k started e constant terms wires turned =
 
 -- what H leaves
 pub hadamard-leaves :
-    (s : Run) (q : ℕ) (l : Lent) (ws′ : List ℕ) (fs′ : List Bool) (u v : Wire) (p : Phase) (next : ℕ) {ss′ cs′ : List ℕ} →
+    (s : Run) (q : ℕ) (l : Lent) (ws′ : List ℕ) (fs′ : List Bool) (u v : ParityWord) (p : Phase) (next : ℕ) {ss′ cs′ : List ℕ} →
     length (l .wires) ≤ s .next →
     next ≡ s .next + 1 →
     parityOf u ≡ wire q (sumIn s l) →
@@ -147,7 +147,7 @@ hadamard-leaves s q l ws′ fs′ u v p next started more e f constant terms wir
 
 -- what CZ leaves
 pub controlled-z-leaves :
-    (s : Run) (a b : ℕ) (l : Lent) (u v : Wire) (p : Phase) {ss′ cs′ : List ℕ} →
+    (s : Run) (a b : ℕ) (l : Lent) (u v : ParityWord) (p : Phase) {ss′ cs′ : List ℕ} →
     length (l .wires) ≤ s .next →
     parityOf u ≡ wire a (sumIn s l) →
     parityOf v ≡ wire b (sumIn s l) →

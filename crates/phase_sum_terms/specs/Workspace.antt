@@ -16,7 +16,7 @@ use Rattle.phase_sum_meaning.specs.Phase as phase
 use Rattle.phase_sum_meaning.specs.Phase.{Term, term, rebuild}
 use Rattle.phase_sum_meaning.specs.Building.{PathSum}
 use Rattle.phase_sum_terms.specs.declared.Phase.{Phase}
-use Rattle.phase_sum_terms.specs.declared.Wire.{Wire}
+use Rattle.phase_sum_terms.specs.declared.Parity.{Parity as ParityWord}
 use Rattle.phase_sum_terms.specs.declared.Sum.{Sum}
 use Rattle.phase_sum_terms.specs.declared.Found.{Found}
 use Rattle.phase_sum_terms.specs.declared.Found.the-variants.{Variable, Nothing}
@@ -71,8 +71,8 @@ Rebuilt f p r ss cs ss′ cs′ = Phased (rebuild f (p .constant) (held (p .coun
 abbrev pub alone : phase.Phase → PathSum
 alone φ = record { phase = φ; wires = []; live = [] }
 
--- a wire's parity
-abbrev pub parityOf : Wire → Parity
+-- the parity that a set and a constant bit stand for
+abbrev pub parityOf : ParityWord → Parity
 parityOf w = record { vars = w .set; flipped = w .flipped }
 
 -- parities by their sets and constants

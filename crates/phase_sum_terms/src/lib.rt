@@ -10,8 +10,8 @@ pub mod sets;
 pub mod terms;
 pub mod wires;
 
-// A wire of document 01: the parity of a set of variables, complemented where flipped.
-pub struct Wire {
+// A parity: of a set of variables, complemented where flipped. A wire of document 01 is one; so is what a pin or a join sets to 0.
+pub struct Parity {
     pub set: u64,
     pub flipped: bool,
 }

@@ -4,21 +4,21 @@ ghost use Prim.Native.Nat.{_<_};
 ghost use lib.ListN.{length, getD, set};
 ghost use Rattle.phase_sum_meaning.specs.Parity.{of};
 ghost use Rattle.phase_sum_terms.specs.Workspace.{parityOf, zipWires};
-use crate::Wire;
+use crate::Parity;
 
 // Wire q.
-pub fn wire(ws: &[u64], fs: &[bool], q: usize) -> Wire
+pub fn wire(ws: &[u64], fs: &[bool], q: usize) -> Parity
     requires { ⌜ (q < length (now ws)) × (q < length (now fs)) ⌝ }
     ensures { λ r. ⌜ parityOf r ≡ getD (zipWires (now (ws .entry)) (now (fs .entry))) q (of 0) ⌝ }
 {
-    Wire {
+    Parity {
         set: ws[q],
         flipped: fs[q],
     }
 }
 
 // Wire q set anew.
-pub fn set_wire(ws: &mut [u64], fs: &mut [bool], q: usize, w: Wire)
+pub fn set_wire(ws: &mut [u64], fs: &mut [bool], q: usize, w: Parity)
     requires { ⌜ (q < length (now ws)) × (q < length (now fs)) ⌝ }
     ensures { λ _. ⌜ zipWires (now (ws .exit)) (now (fs .exit)) ≡ set (zipWires (now (ws .entry)) (now (fs .entry))) q (parityOf w) ⌝ }
 {

@@ -5,9 +5,9 @@ use crate::pair;
 use crate::print;
 use crate::row;
 use crate::row::Row;
+use phase_sum_terms::Parity;
 use phase_sum_terms::Phase;
 use phase_sum_terms::Sum;
-use phase_sum_terms::Wire;
 use phase_sum_terms::sets;
 use phase_sum_terms::terms;
 
@@ -112,7 +112,7 @@ fn replaced_in(
         return phase;
     }
     let z = (r.variable % 64) as u32;
-    let p = Wire {
+    let p = Parity {
         set: r.set,
         flipped: r.flipped,
     };

@@ -11,7 +11,7 @@ use Rattle.phase_sum_meaning.specs.Phase.{term, rebuild}
 use Rattle.phase_sum_terms.specs.Workspace.{zipTerms, held, parityOf}
 use Rattle.phase_sum_terms.specs.Unmerged.{phaseTerm}
 use Rattle.phase_sum_terms.specs.Inner.{sentTo}
-use Rattle.phase_sum_terms.specs.declared.Wire.{Wire}
+use Rattle.phase_sum_terms.specs.declared.Parity.{Parity as ParityWord}
 use Rattle.phase_sum_terms.proofs.Merging.{rebuild-constant}
 use Rattle.phase_sum_terms.proofs.Storing.{held-more}
 use Rattle.phase_sum_terms.proofs.Passes.{Passed, passed-none, passed-more, passed-all, front-next}
@@ -19,7 +19,7 @@ use Rattle.phase_sum_stepping.proofs.replace_unmerged.Statement.{statem
 use Rattle.phase_sum_stepping.proofs.replace_unmerged.Tie as tie
 
 -- the parity that a set becomes
-abbrev replaced : ℕ → Wire → ℕ → Parity
+abbrev replaced : ℕ → ParityWord → ℕ → Parity
 replaced z p u = replaceIn z (parityOf p) (of u)
 
 abbrev Inv-loop : tie.InvT-loop

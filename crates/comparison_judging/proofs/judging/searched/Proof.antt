@@ -7,7 +7,7 @@ use Prim.Native.Nat.{ℕ}
 use native.Mathlib.Omega.{arith}
 use denote.Ref.{now}
 use Rattle.phase_sum_terms.specs.Workspace.{slices}
-use Rattle.phase_sum_terms.specs.declared.Wire.{Wire}
+use Rattle.phase_sum_terms.specs.declared.Parity.{Parity as ParityWord}
 use Rattle.comparison_meaning.specs.Reduction.{End}
 use Rattle.comparison_types.specs.Inner.{endOf, unblocked}
 use Rattle.comparison_types.proofs.VerdictLaws.{found-below, searched-uneven, searched-found, searched-none}
@@ -16,7 +16,7 @@ use Rattle.comparison_judging.proofs.judging.searched.Statement.{statem
 use Rattle.comparison_judging.proofs.judging.searched.Tie as tie
 
 -- the end that the arguments stand for
-abbrev ended : tie.Start → List ℕ → List Bool → Wire → End
+abbrev ended : tie.Start → List ℕ → List Bool → ParityWord → End
 ended c ws fs by =
     endOf (unblocked by (c .args .sum) (c .args .counts)) (slices ws fs (now (c .args .sets)) (now (c .args .coeffs)))
 
