@@ -179,10 +179,12 @@ def tables(plain):
         if family.bar:
             times = growth[name, 512] / growth[name, 128]
             lines.append(f"| {name} | {times:.2f} times | {growth[name, 512] / family.bar:.2f} of {family.bar:,} |")
-    busy = busy_pair()
-    ours, theirs, _ = measured(plain, base, [busy])
-    lines += ["", f"A pair that keeps the search busy: {ours:,} against {theirs:,}, {ours / theirs:.2f} times."]
-    lines += ["", f"Slowest run of all these pairs, the process's start among it: {slowest(ENGINE, everything + [busy]):.1f} ms."]
+    with open(os.path.join(ROOT, "bench", "dearest.pair"), "rb") as file:
+        single = {"A pair that keeps the search busy": busy_pair(), "The dearest pair that `bench/dearest.py` found": file.read()}
+    for name, data in single.items():
+        ours, theirs, _ = measured(plain, base, [data])
+        lines += ["", f"{name}: {ours:,} against {theirs:,}, {ours / theirs:.2f} times."]
+    lines += ["", f"Slowest run of all these pairs, the process's start among it: {slowest(ENGINE, everything + list(single.values())):.1f} ms."]
     return lines
 
 
