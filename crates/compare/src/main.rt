@@ -3,7 +3,12 @@
 // first. Where an input cannot be read, nothing is printed but a message on standard error.
 mod reading;
 
+ghost use mathlib.Core.Path.{_≡_};
+ghost use Rattle.result_line.specs.Line.{lineOf, AtFront};
+ghost use Rattle.compare.specs.Says.{wereRead, programSays};
+use comparison::Answer;
 use comparison::PLACES;
+use comparison::Refusal;
 use comparison::compare;
 use libc::STDERR_FILENO;
 use libc::STDIN_FILENO;
@@ -12,9 +17,7 @@ use reading::read_all;
 use reading::read_argument;
 use record_format::GATE_SIZE;
 use record_format::HEAD_SIZE;
-use record_reading::MOST_GATES;
-use records::Checked;
-use records::check;
+use record_format::from_bytes;
 use result_line::LINE_SIZE;
 use result_line::write_answer;
 use result_line::write_refusal;
@@ -28,26 +31,35 @@ const STREAM_SIZE: usize = 3083;
 // The refusal's number where bytes follow the second record, or the record of a file.
 const BYTES_FOLLOW: u8 = 12;
 
-// The bytes of a record of g gates; 0 for more gates than a record has.
-fn size_of(g: usize) -> usize {
-    if g > MOST_GATES {
+// The bytes of the record at the start of a slice, as its head says; 0 where there is no whole head.
+fn size_in(s: &[u8]) -> usize {
+    if s.len() < HEAD_SIZE {
         return 0;
     }
-    HEAD_SIZE + GATE_SIZE * g
+    HEAD_SIZE + GATE_SIZE * from_bytes(s[3], s[4]) as usize
 }
 
-// Are both records good, and do bytes follow one of them?
+// Were both lists read: is the answer no refusal of one of them?
+fn were_read(answer: Answer) -> bool
+    ensures { λ r. ⌜ r ≡ wereRead answer ⌝ }
+{
+    match answer {
+        Answer::Compared(_) => true,
+        Answer::Refused(refusal) => match refusal {
+            Refusal::List(_) => false,
+            Refusal::QubitsDiffer => true,
+            Refusal::TooManyVariables => true,
+            Refusal::WorkspaceShort => true,
+        },
+    }
+}
+
+// Do bytes follow one of two records?
 fn bytes_follow(first: &[u8], second: &[u8]) -> bool {
-    let Checked::Accepted { n: _, g } = check(first) else {
-        return false;
-    };
-    let Checked::Accepted { n: _, g: h } = check(second) else {
-        return false;
-    };
-    if first.len() > size_of(g) {
+    if first.len() > size_in(first) {
         return true;
     }
-    second.len() > size_of(h)
+    second.len() > size_in(second)
 }
 
 // The whole line in one write, or a message.
@@ -57,36 +69,36 @@ fn print(line: &[u8]) {
     }
 }
 
-// `refused` and the number.
-fn print_refusal(number: u8) {
-    let mut line = [0u8; LINE_SIZE];
-    let end = write_refusal(number, &mut line);
-    print(&line[..end]);
+// The line of what was answered, or of number 12: behind the lists' own numbers, before those of the pair.
+fn write_line(answer: Answer, follow: bool, line: &mut [u8; LINE_SIZE]) -> usize
+    ensures { λ r. ⌜ AtFront (lineOf (programSays follow answer)) (now (line .entry)) r (now (line .exit)) ⌝ }
+{
+    if !follow {
+        return write_answer(answer, line);
+    }
+    if were_read(answer) {
+        return write_refusal(BYTES_FOLLOW, line);
+    }
+    write_answer(answer, line)
 }
 
 // Two records, each with nothing behind it, compared.
 fn run_pair(first: &[u8], second: &[u8]) {
-    if bytes_follow(first, second) {
-        print_refusal(BYTES_FOLLOW);
-        return;
-    }
     let mut sets = [0u64; PLACES];
     let mut coeffs = [0u8; PLACES];
     let mut line = [0u8; LINE_SIZE];
-    let end = write_answer(compare(first, second, &mut sets, &mut coeffs), &mut line);
+    let answer = compare(first, second, &mut sets, &mut coeffs);
+    let end = write_line(answer, bytes_follow(first, second), &mut line);
     print(&line[..end]);
 }
 
-// The records of one stream: the first, and the second directly after it.
+// The records of one stream: the first, and the second directly after it. A first record that is cut is refused by its own number.
 fn run_stream(input: &[u8]) {
-    match check(input) {
-        Checked::Refused(refusal) => print_refusal(records::number(refusal)),
-        Checked::Accepted { n: _, g } => {
-            let size = size_of(g);
-            if size <= input.len() {
-                run_pair(&input[..size], &input[size..]);
-            }
-        }
+    let size = size_in(input);
+    if size <= input.len() {
+        run_pair(&input[..size], &input[size..]);
+    } else {
+        run_pair(input, &input[..0]);
     }
 }
 
