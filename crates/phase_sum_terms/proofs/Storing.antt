@@ -163,20 +163,6 @@ stored-held {m} {ts} {r} {ss} {cs} {ss′} {cs′} e =
     rw (e .counted, e .sets, e .coeffs)
     (rw (take-over m ts ss (λ t. t .set), take-over m ts cs (λ t. t .coeff)) (zip-parts ts))
 
--- the places behind, from b on
-pub stored-behind :
-    {m : ℕ} {ts : List Term} {r : ℕ} {ss cs ss′ cs′ : List ℕ} (b : ℕ) →
-    Stored m ts r ss cs ss′ cs′ →
-    m ≤ b →
-    length ts ≤ b →
-    (drop b ss′ ≡ drop b ss) × (drop b cs′ ≡ drop b cs)
-stored-behind {m} {ts} {r} {ss} {cs} {ss′} {cs′} b e k l =
-    let h : length (setsOf ts) ≤ b = omega (arith, length-map ts (λ t. t .set)) in
-    let h′ : length (coeffsOf ts) ≤ b = omega (arith, length-map ts (λ t. t .coeff)) in (
-      rw (e .sets, drop-over m b (setsOf ts) ss h) (rest-behind m b ss k),
-      rw (e .coeffs, drop-over m b (coeffsOf ts) cs h′) (rest-behind m b cs k),
-    )
-
 -- terms stored, and then others that leave of both lists what they would have left alone
 stored-twice :
     {m r q : ℕ} {ts us : List Term} {ss cs ss₁ cs₁ ss₂ cs₂ : List ℕ} →
