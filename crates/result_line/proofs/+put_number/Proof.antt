@@ -19,113 +19,16 @@ use Rattle.result_line.proofs.+put_number.Tie.{close}
 abbrev μ-put-number : Measures 1 put-number-kinds.ps ℕ
 μ-put-number κs a = a .1 .1 .0
 
+-- what `put_number` is given at the measure t, and what a call of it asks below t
 abbrev put-number-at : ℕ → In 1 put-number-kinds.ps
 put-number-at t = and 1 put-number-kinds.ps (is 1 put-number-kinds.ps μ-put-number t) put-number.Pre
 
 abbrev put-number-below : ℕ → In 1 put-number-kinds.ps
 put-number-below t = and 1 put-number-kinds.ps (falls 1 put-number-kinds.ps _<_ μ-put-number t) put-number.Pre
 
-put-number-digit-requires : (t : ℕ) → put-number-lts.Need-digit-requires (
-  digit-reads.Asked,
-  digit-reads.Learnt,
-  put-byte-reads.Asked,
-  put-byte-reads.Learnt,
-  put-number-below t,
-  put-number.Post,
-) (put-number-at t) put-number.Post
-put-number-digit-requires t c κs = search needs
-
-put-number-put-byte-requires : (t : ℕ) → put-number-lts.Need-put-byte-requires (
-  digit-reads.Asked,
-  digit-reads.Learnt,
-  put-byte-reads.Asked,
-  put-byte-reads.Learnt,
-  put-number-below t,
-  put-number.Post,
-) (put-number-at t) put-number.Post
-put-number-put-byte-requires t c κs =
-    let s = c .before .before .before .before in
-    omega (arith, ap length (one-digit (s .args .x) (c .before .before .if1 .taken)), s .pre .1)
-
-put-number-same-length : (t : ℕ) → put-number-lts.Need-same-length (
-  digit-reads.Asked,
-  digit-reads.Learnt,
-  put-byte-reads.Asked,
-  put-byte-reads.Learnt,
-  put-number-below t,
-  put-number.Post,
-) (put-number-at t) put-number.Post
-put-number-same-length t c = search needs
-
-put-number-returns : (t : ℕ) → put-number-lts.Need-returns (
-  digit-reads.Asked,
-  digit-reads.Learnt,
-  put-byte-reads.Asked,
-  put-byte-reads.Learnt,
-  put-number-below t,
-  put-number.Post,
-) (put-number-at t) put-number.Post
-put-number-returns t c = wrote-one (c .before .before .before .before .before .if1 .taken) (c .before .before .before .digit .ensures) (c .before .before .put-byte .ensures)
-
-put-number-put-number-requires : (t : ℕ) → put-number-lts.Need-put-number-requires (
-  digit-reads.Asked,
-  digit-reads.Learnt,
-  put-byte-reads.Asked,
-  put-byte-reads.Learnt,
-  put-number-below t,
-  put-number.Post,
-) (put-number-at t) put-number.Post
-put-number-put-number-requires t c κs =
-    let s = c .before .before .before in
-    let large : 10 ≤ s .args .x = c .before .if1 .left in
-    (omega (arith, s .pre .0), omega (arith, decimal-longer (s .args .x) large (s .fits .x .fits), s .pre .1))
-
-put-number-digit-requires-2 : (t : ℕ) → put-number-lts.Need-digit-requires-2 (
-  digit-reads.Asked,
-  digit-reads.Learnt,
-  put-byte-reads.Asked,
-  put-byte-reads.Learnt,
-  put-number-below t,
-  put-number.Post,
-) (put-number-at t) put-number.Post
-put-number-digit-requires-2 t c κs = search needs
-
-put-number-put-byte-requires-2 : (t : ℕ) → put-number-lts.Need-put-byte-requires-2 (
-  digit-reads.Asked,
-  digit-reads.Learnt,
-  put-byte-reads.Asked,
-  put-byte-reads.Learnt,
-  put-number-below t,
-  put-number.Post,
-) (put-number-at t) put-number.Post
-put-number-put-byte-requires-2 t c κs =
-    let s = c .before .before .before .before .before .before .before .before in
-    omega (arith, decimal-longer (s .args .x) (c .before .before .before .before .before .before .if1 .left) (s .fits .x .fits), s .pre .1, c .before .before .before .before .put-number .ensures .end, c .before .before .before .before .put-number .kept .0)
-
-put-number-same-length-2 : (t : ℕ) → put-number-lts.Need-same-length-2 (
-  digit-reads.Asked,
-  digit-reads.Learnt,
-  put-byte-reads.Asked,
-  put-byte-reads.Learnt,
-  put-number-below t,
-  put-number.Post,
-) (put-number-at t) put-number.Post
-put-number-same-length-2 t c = search needs
-
-put-number-returns-2 : (t : ℕ) → put-number-lts.Need-returns-2 (
-  digit-reads.Asked,
-  digit-reads.Learnt,
-  put-byte-reads.Asked,
-  put-byte-reads.Learnt,
-  put-number-below t,
-  put-number.Post,
-) (put-number-at t) put-number.Post
-put-number-returns-2 t c =
-    let s = c .before .before .before .before .before .before .before .before .before .before .before in
-    wrote-more (c .before .before .before .before .before .before .before .before .before .if1 .left) (s .fits .x .fits) (s .pre .1) (c .before .before .before .before .before .before .before .put-number .ensures) (c .before .before .before .digit2 .ensures) (c .before .before .put-byte2 .ensures)
-
-pub +put-number-spec : {M : Type 1} → statement M
-+put-number-spec = close μ-put-number λ t. put-number-lts.spec (
+-- what the calls ask and ensure
+abbrev calls : ℕ → put-number-lts.Claims
+calls t = (
   digit-reads.Asked,
   digit-reads.Learnt,
   put-byte-reads.Asked,
@@ -133,6 +36,45 @@ pub +put-number-spec : {M : Type 1} → statement M
   put-number-below t,
   put-number.Post,
 )
+
+put-number-digit-requires : (t : ℕ) → put-number-lts.Need-digit-requires (calls t) (put-number-at t) put-number.Post
+put-number-digit-requires t c κs = search needs
+
+put-number-put-byte-requires : (t : ℕ) → put-number-lts.Need-put-byte-requires (calls t) (put-number-at t) put-number.Post
+put-number-put-byte-requires t c κs =
+    let s = c .before .before .before .before in
+    omega (arith, ap length (one-digit (s .args .x) (c .before .before .if1 .taken)), s .pre .1)
+
+put-number-same-length : (t : ℕ) → put-number-lts.Need-same-length (calls t) (put-number-at t) put-number.Post
+put-number-same-length t c = search needs
+
+put-number-returns : (t : ℕ) → put-number-lts.Need-returns (calls t) (put-number-at t) put-number.Post
+put-number-returns t c = wrote-one (c .before .before .before .before .before .if1 .taken) (c .before .before .before .digit .ensures) (c .before .before .put-byte .ensures)
+
+put-number-put-number-requires : (t : ℕ) → put-number-lts.Need-put-number-requires (calls t) (put-number-at t) put-number.Post
+put-number-put-number-requires t c κs =
+    let s = c .before .before .before in
+    let large : 10 ≤ s .args .x = c .before .if1 .left in
+    (omega (arith, s .pre .0), omega (arith, decimal-longer (s .args .x) large (s .fits .x .fits), s .pre .1))
+
+put-number-digit-requires-2 : (t : ℕ) → put-number-lts.Need-digit-requires-2 (calls t) (put-number-at t) put-number.Post
+put-number-digit-requires-2 t c κs = search needs
+
+put-number-put-byte-requires-2 : (t : ℕ) → put-number-lts.Need-put-byte-requires-2 (calls t) (put-number-at t) put-number.Post
+put-number-put-byte-requires-2 t c κs =
+    let s = c .before .before .before .before .before .before .before .before in
+    omega (arith, decimal-longer (s .args .x) (c .before .before .before .before .before .before .if1 .left) (s .fits .x .fits), s .pre .1, c .before .before .before .before .put-number .ensures .end, c .before .before .before .before .put-number .kept .0)
+
+put-number-same-length-2 : (t : ℕ) → put-number-lts.Need-same-length-2 (calls t) (put-number-at t) put-number.Post
+put-number-same-length-2 t c = search needs
+
+put-number-returns-2 : (t : ℕ) → put-number-lts.Need-returns-2 (calls t) (put-number-at t) put-number.Post
+put-number-returns-2 t c =
+    let s = c .before .before .before .before .before .before .before .before .before .before .before in
+    wrote-more (c .before .before .before .before .before .before .before .before .before .if1 .left) (s .fits .x .fits) (s .pre .1) (c .before .before .before .before .before .before .before .put-number .ensures) (c .before .before .before .digit2 .ensures) (c .before .before .put-byte2 .ensures)
+
+pub +put-number-spec : {M : Type 1} → statement M
++put-number-spec = close μ-put-number λ t. put-number-lts.spec (calls t)
     (put-number-at t)
     put-number.Post
     (put-number-digit-requires t)
