@@ -16,6 +16,9 @@ use comparison_types::Verdict;
 use phase_sum_terms::Found;
 use phase_sum_terms::Parity;
 use phase_sum_terms::Sum;
+use phase_sum_terms::sets::below;
+use phase_sum_terms::sets::count;
+use phase_sum_terms::sets::is_empty;
 use phase_sum_terms::sets::lowest;
 
 // An input that makes a blocked parity 1: 0 if its constant is 1, else the input that holds only its lowest qubit.
@@ -26,9 +29,7 @@ fn blocked_input(by: Parity, n: usize) -> u16
     if by.flipped {
         return 0;
     }
-    let set = by.set;
-    let inputs = set % (1u64 << (n as u32));
-    match lowest(inputs) {
+    match lowest(below(by.set, n as u32)) {
         Found::Variable(v) => 1u16 << v,
         Found::Nothing => 0,
     }
@@ -46,7 +47,7 @@ fn outcome(sum: Sum, counts: Counts, verdict: Verdict, first: u16, second: u16) 
         sums: counts.sums,
         turns: counts.turns,
         joins: counts.joins,
-        left: u64::count_ones(sum.live) as u8,
+        left: count(sum.live) as u8,
     }
 }
 
@@ -78,8 +79,8 @@ pub fn judge(end: End, n: usize, sets: &[u64], coeffs: &[u8]) -> Outcome
         let input = blocked_input(by, n);
         return outcome(sum, counts, Verdict::Different, input, input);
     }
-    if sum.live != 0 {
-        return outcome(sum, counts, Verdict::Undecided, 0, 0);
+    if is_empty(sum.live) {
+        return searched(sum, counts, n, sets, coeffs);
     }
-    searched(sum, counts, n, sets, coeffs)
+    outcome(sum, counts, Verdict::Undecided, 0, 0)
 }

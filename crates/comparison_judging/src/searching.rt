@@ -1,18 +1,27 @@
 // The search over the inputs of weight 1, 2 and 3, lower numbers first, for one whose phase differs from that of input 0. Document 01,
 // "Reducing it". An answer of 0 is none: input 0 does not differ from itself.
 ghost use mathlib.Core.Path.{_≡_};
-ghost use Prim.Native.Nat.{_%_, _≤_};
+ghost use Prim.Native.Nat.{_%_, _<_, _≤_};
 ghost use mathlib.Core.Bool.{not};
 ghost use lib.ListN.{length};
 ghost use lib.Dec.{eqb};
+ghost use Rattle.phase_sum_meaning.specs.Sets.{single};
 ghost use Rattle.phase_sum_meaning.specs.Phase.{phaseAt};
 ghost use Rattle.comparison_meaning.specs.Verdict.{weight, candidates, firstDiffering};
 ghost use Rattle.phase_sum_terms.specs.Workspace.{phaseOf};
 ghost use Rattle.comparison_types.specs.Inner.{inputOf};
 use phase_sum_stepping::odd_mask;
 use phase_sum_terms::Phase;
-use phase_sum_terms::sets::single;
+use phase_sum_terms::sets::is_empty;
 use phase_sum_terms::terms::phase_at;
+
+// The input that holds qubit q alone.
+fn only(q: u32) -> u64
+    requires { ⌜ q < 16 ⌝ }
+    ensures { λ r. ⌜ r ≡ single q ⌝ }
+{
+    1u64 << q
+}
 
 // Does the phase at an input differ from that at input 0?
 fn differs(sets: &[u64], coeffs: &[u8], phase: Phase, input: u64) -> bool
@@ -29,7 +38,7 @@ fn weight_one(sets: &[u64], coeffs: &[u8], phase: Phase, n: u32) -> u64
 {
     let mut i = 0u32;
     while i < n {
-        let input = single(i);
+        let input = only(i);
         if differs(sets, coeffs, phase, input) {
             return input;
         }
@@ -45,10 +54,10 @@ fn weight_two(sets: &[u64], coeffs: &[u8], phase: Phase, n: u32) -> u64
 {
     let mut i = 0u32;
     while i < n {
-        let high = single(i);
+        let high = only(i);
         let mut j = 0u32;
         while j < i {
-            let input = high + single(j);
+            let input = high + only(j);
             if differs(sets, coeffs, phase, input) {
                 return input;
             }
@@ -67,13 +76,13 @@ fn weight_three(sets: &[u64], coeffs: &[u8], phase: Phase, n: u32) -> u64
     let mut found = 0u64;
     let mut i = 0u32;
     'search: while i < n {
-        let high = single(i);
+        let high = only(i);
         let mut j = 0u32;
         while j < i {
-            let pair = high + single(j);
+            let pair = high + only(j);
             let mut k = 0u32;
             while k < j {
-                let input = pair + single(k);
+                let input = pair + only(k);
                 if differs(sets, coeffs, phase, input) {
                     found = input;
                     break 'search;
@@ -100,7 +109,7 @@ pub fn search(sets: &[u64], coeffs: &[u8], phase: Phase, n: u32) -> u64
     if two != 0 {
         return two;
     }
-    if odd_mask(sets, coeffs, phase.count) == 0 {
+    if is_empty(odd_mask(sets, coeffs, phase.count)) {
         return 0;
     }
     weight_three(sets, coeffs, phase, n)

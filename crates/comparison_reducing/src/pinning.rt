@@ -4,6 +4,7 @@ ghost use Prim.Native.Nat.{_+_, _<_, _≤_};
 ghost use lib.ListN.{length, getD};
 ghost use Rattle.phase_sum_meaning.specs.Parity.{of, _⊕_, rest};
 ghost use Rattle.phase_sum_meaning.specs.Building.{input};
+ghost use Rattle.phase_sum_meaning.specs.Room.{mostVariables};
 ghost use Rattle.phase_sum_terms.specs.Workspace.{parityOf, zipWires, lent, before, after, Sized};
 ghost use Rattle.comparison_meaning.specs.Reduction.{isZero};
 ghost use Rattle.comparison_types.specs.Inner.{PinnedQubit, PinnedAll};
@@ -13,14 +14,16 @@ use phase_sum_stepping::replace;
 use phase_sum_terms::Found;
 use phase_sum_terms::Parity;
 use phase_sum_terms::Sum;
+use phase_sum_terms::sets::empty;
 use phase_sum_terms::sets::exclusive_or;
+use phase_sum_terms::sets::is_empty;
 use phase_sum_terms::sets::lowest_in;
 use phase_sum_terms::sets::single;
 use phase_sum_terms::wires::wire;
 
 // The parity of output wire q and input q together.
 fn mismatch(ws: &[u64], fs: &[bool], q: usize) -> Parity
-    requires { ⌜ (q < 64) × (q < length (now ws)) × (q < length (now fs)) ⌝ }
+    requires { ⌜ (q < mostVariables) × (q < length (now ws)) × (q < length (now fs)) ⌝ }
     ensures { λ r. ⌜ parityOf r ≡ getD (zipWires (now (ws .entry)) (now (fs .entry))) q (of 0) ⊕ input 0 q ⌝ }
 {
     let w = wire(ws, fs, q);
@@ -32,7 +35,7 @@ fn mismatch(ws: &[u64], fs: &[bool], q: usize) -> Parity
 
 // The rest of a parity without a variable that it holds.
 pub fn rest_of(w: Parity, z: u32) -> Parity
-    requires { ⌜ z < 64 ⌝ }
+    requires { ⌜ z < mostVariables ⌝ }
     ensures { λ r. ⌜ parityOf r ≡ rest z (parityOf w) ⌝ }
 {
     Parity {
@@ -45,7 +48,7 @@ pub fn rest_of(w: Parity, z: u32) -> Parity
 fn is_zero(w: Parity) -> bool
     ensures { λ r. ⌜ r ≡ isZero (parityOf w) ⌝ }
 {
-    if w.set == 0 {
+    if is_empty(w.set) {
         return !w.flipped;
     }
     false
@@ -102,7 +105,7 @@ pub fn pin(sum: Sum, ws: &mut [u64], fs: &mut [bool], sets: &mut [u64], coeffs: 
     let mut end = End {
         blocked: false,
         by: Parity {
-            set: 0,
+            set: empty(),
             flipped: false,
         },
         sum,

@@ -5,9 +5,10 @@ ghost use mathlib.Core.Bool.{true, false};
 ghost use lib.ListN.{length};
 ghost use Rattle.amplitude.specs.Bits.{bit};
 ghost use Rattle.phase_sum_meaning.specs.Stepping.{kindOf, constraint, constrained, firstReady};
-ghost use Rattle.phase_sum_terms.specs.Workspace.{held, parityOf, members, foundOf, lent, before, after, Sized};
+ghost use Rattle.phase_sum_meaning.specs.Room.{mostVariables};
+ghost use Rattle.phase_sum_terms.specs.Workspace.{setOf, held, parityOf, members, foundOf, lent, before, after, Sized};
 ghost use Rattle.comparison_meaning.specs.Reduction.{addSum, addTurn, addJoin};
-ghost use Rattle.comparison_types.specs.Inner.{countsOf, CountedTo, StepsTo, StepsAt, ReducedTo};
+ghost use Rattle.comparison_types.specs.Inner.{countsOf, CountedTo, Goes, StepsTo, StepsAt, ReducedTo};
 use crate::pinning::rest_of;
 use comparison_types::Counts;
 use comparison_types::End;
@@ -19,6 +20,10 @@ use phase_sum_stepping::turn_out;
 use phase_sum_terms::Found;
 use phase_sum_terms::Parity;
 use phase_sum_terms::Sum;
+use phase_sum_terms::sets::Set;
+use phase_sum_terms::sets::count;
+use phase_sum_terms::sets::empty;
+use phase_sum_terms::sets::is_empty;
 use phase_sum_terms::sets::lowest_in;
 use phase_sum_terms::sets::lowest_out;
 use phase_sum_terms::sets::without;
@@ -64,12 +69,12 @@ fn add_join(counts: Counts) -> Counts
 
 // Not blocked.
 fn goes(sum: Sum, counts: Counts) -> End
-    ensures { λ r. ⌜ r ≡ record { blocked = false; by = record { set = 0; flipped = false }; sum = sum; counts = counts } ⌝ }
+    ensures { λ r. ⌜ Goes sum counts r ⌝ }
 {
     End {
         blocked: false,
         by: Parity {
-            set: 0,
+            set: empty(),
             flipped: false,
         },
         sum,
@@ -78,8 +83,8 @@ fn goes(sum: Sum, counts: Counts) -> End
 }
 
 // What must be 0 for a join: L with constant C/2.
-fn constraint_of(c: u8, l: u64) -> Parity
-    ensures { λ r. ⌜ parityOf r ≡ constrained c l ⌝ }
+fn constraint_of(c: u8, l: Set) -> Parity
+    ensures { λ r. ⌜ parityOf r ≡ constrained c (setOf l) ⌝ }
 {
     Parity {
         set: l,
@@ -88,9 +93,9 @@ fn constraint_of(c: u8, l: u64) -> Parity
 }
 
 // Does a step with this C and L join two variables or block: is C even, and not both C and L nothing?
-fn constrains(c: u8, l: u64) -> bool
-    ensures yes { λ r. ⌜ (r ≡ true → kindOf c l ≡ constraint) ⌝ }
-    ensures no { λ r. ⌜ (r ≡ false → kindOf c l ≡ constraint → ⊥) ⌝ }
+fn constrains(c: u8, l: Set) -> bool
+    ensures yes { λ r. ⌜ (r ≡ true → kindOf c (setOf l) ≡ constraint) ⌝ }
+    ensures no { λ r. ⌜ (r ≡ false → kindOf c (setOf l) ≡ constraint → ⊥) ⌝ }
 {
     if c % 2 == 1 {
         return false;
@@ -98,7 +103,7 @@ fn constrains(c: u8, l: u64) -> bool
     if c != 0 {
         return true;
     }
-    l != 0
+    !is_empty(l)
 }
 
 // The step at a variable y left, whose C and L are given: a sum, a turn, or a join that replaces z.
@@ -108,14 +113,14 @@ pub fn step_at(
     y: u32,
     z: u32,
     c: u8,
-    l: u64,
+    l: Set,
     ws: &mut [u64],
     fs: &mut [bool],
     sets: &mut [u64],
     coeffs: &mut [u8],
 ) -> End
-    requires { ⌜ (bit y (sum .live) ≡ true) × (y < 64) × (z < 64) × CountedTo 64 counts × Sized sum (lent ws fs sets coeffs) ⌝ }
-    ensures { λ r. ⌜ StepsTo y z c l sum counts r (before ws fs sets coeffs) (after ws fs sets coeffs) ⌝ }
+    requires { ⌜ (bit y (setOf (sum .live)) ≡ true) × (y < mostVariables) × (z < mostVariables) × CountedTo mostVariables counts × Sized sum (lent ws fs sets coeffs) ⌝ }
+    ensures { λ r. ⌜ StepsTo y z c (setOf l) sum counts r (before ws fs sets coeffs) (after ws fs sets coeffs) ⌝ }
 {
     if c % 2 == 1 {
         return goes(turn_out(sum, y, c, l, sets, coeffs), add_turn(counts));
@@ -140,7 +145,7 @@ fn step(
     sets: &mut [u64],
     coeffs: &mut [u8],
 ) -> End
-    requires { ⌜ (bit y (sum .live) ≡ true) × (y < 64) × CountedTo 64 counts × Sized sum (lent ws fs sets coeffs) ⌝ }
+    requires { ⌜ (bit y (setOf (sum .live)) ≡ true) × (y < mostVariables) × CountedTo mostVariables counts × Sized sum (lent ws fs sets coeffs) ⌝ }
     ensures { λ r. ⌜ StepsAt y sum counts r (before ws fs sets coeffs) (after ws fs sets coeffs) ⌝ }
 {
     let phase = sum.phase;
@@ -166,7 +171,7 @@ fn step(
 // The lowest ready variable: left, and in no term of odd coefficient.
 fn ready(sum: Sum, sets: &[u64], coeffs: &[u8]) -> Found
     requires { ⌜ (sum .phase .count ≤ length (now sets)) × (sum .phase .count ≤ length (now coeffs)) ⌝ }
-    ensures { λ r. ⌜ foundOf r ≡ firstReady (members (sum .live)) (held (sum .phase .count) (now (sets .entry)) (now (coeffs .entry))) ⌝ }
+    ensures { λ r. ⌜ foundOf r ≡ firstReady (members (setOf (sum .live))) (held (sum .phase .count) (now (sets .entry)) (now (coeffs .entry))) ⌝ }
 {
     let phase = sum.phase;
     lowest_out(sum.live, odd_mask(sets, coeffs, phase.count))
@@ -185,7 +190,7 @@ pub fn reduce(
     ensures { λ r. ⌜ ReducedTo sum counts r (before ws fs sets coeffs) (after ws fs sets coeffs) ⌝ }
 {
     let mut end = goes(sum, counts);
-    let mut left = u64::count_ones(sum.live);
+    let mut left = count(sum.live);
     while left > 0 {
         let now = end.sum;
         let Found::Variable(y) = ready(now, sets, coeffs) else {

@@ -13,7 +13,7 @@ use Rattle.phase_sum_meaning.specs.Room.{places}
 use Rattle.phase_sum_meaning.specs.Parity.{Parity, rest}
 use Rattle.phase_sum_meaning.specs.Building.{PathSum}
 use Rattle.phase_sum_meaning.specs.Stepping.{replace, takeOut, turned, kindOf, sum, turn, constraint, constrained}
-use Rattle.phase_sum_terms.specs.Workspace.{parityOf, Lent, members, sumOf, Sized}
+use Rattle.phase_sum_terms.specs.Workspace.{setOf, parityOf, Lent, members, sumOf, Sized}
 use Rattle.comparison_meaning.specs.Reduction as reduction
 use Rattle.comparison_types.specs.Call.{numberOf}
 use Rattle.phase_sum_terms.specs.declared.Sum.{Sum}
@@ -43,6 +43,12 @@ blockedBy false q = none
 -- an end that no parity blocks
 abbrev pub unblocked : ParityWord → Sum → Counts → End
 unblocked w s c = record { blocked = false; by = w; sum = s; counts = c }
+
+-- the end of a step that went on: no parity blocks, and the sum s and the counts c
+pub record Goes (s : Sum) (c : Counts) (e : End) : Type 0 where
+  pub free : e .blocked ≡ false
+  pub sum : e .sum ≡ s
+  pub counts : e .counts ≡ c
 
 -- the end that an end and its slices stand for
 abbrev pub endOf : End → Lent → reduction.End
@@ -103,7 +109,7 @@ pub record StepsAt (y : ℕ) (s : Sum) (c : Counts) (e : End) (l l′ : Lent) : 
 
 -- what the steps of the sum s with the counts c end in
 pub record ReducedTo (s : Sum) (c : Counts) (e : End) (l l′ : Lent) : Type 0 where
-  pub end : endOf e l′ ≡ reduction.reduceFrom (length (members (s .live))) (sumOf s l) (countsOf c)
+  pub end : endOf e l′ ≡ reduction.reduceFrom (length (members (setOf (s .live)))) (sumOf s l) (countsOf c)
   pub sized : Sized (e .sum) l′
 
 -- what reducing the end e makes of it

@@ -7,7 +7,8 @@ ghost use lib.ListN.{length};
 ghost use Rattle.record_format.specs.Gate.{inverseList};
 ghost use Rattle.phase_sum_meaning.specs.Sets.{from};
 ghost use Rattle.phase_sum_meaning.specs.Building.{initial};
-ghost use Rattle.phase_sum_terms.specs.Workspace.{slices, lent, before, after, members};
+ghost use Rattle.phase_sum_meaning.specs.Room.{mostVariables};
+ghost use Rattle.phase_sum_terms.specs.Workspace.{setOf, slices, lent, before, after, members};
 ghost use Rattle.phase_sum_terms.specs.Unmerged.{gatesIn, miterIn, Runnable, Leaves, RunsAll, Builds, Buildable};
 use phase_sum_gates::move_wires;
 use phase_sum_gates::moves;
@@ -16,7 +17,10 @@ use phase_sum_merging::canonical;
 use phase_sum_terms::Phase;
 use phase_sum_terms::Run;
 use phase_sum_terms::Sum;
+use phase_sum_terms::sets::Set;
+use phase_sum_terms::sets::empty;
 use phase_sum_terms::sets::single;
+use phase_sum_terms::sets::store;
 use phase_sum_terms::sets::union;
 use record_format::gate::inverse_kind;
 
@@ -84,7 +88,7 @@ fn start(ws: &mut [u64], fs: &mut [bool]) -> Run
     let n = ws.len();
     let mut q = 0;
     while q < n {
-        ws[q] = single(q as u32);
+        store(ws, q, single(q as u32));
         fs[q] = false;
         q += 1;
     }
@@ -98,11 +102,11 @@ fn start(ws: &mut [u64], fs: &mut [bool]) -> Run
 }
 
 // The variables from n up to next, as a set.
-fn path_variables(n: u32, next: u32) -> u64
-    requires { ⌜ (n ≤ next) × (next ≤ 64) ⌝ }
-    ensures { λ r. ⌜ members r ≡ from n (next - n) ⌝ }
+fn path_variables(n: u32, next: u32) -> Set
+    requires { ⌜ (n ≤ next) × (next ≤ mostVariables) ⌝ }
+    ensures { λ r. ⌜ members (setOf r) ≡ from n (next - n) ⌝ }
 {
-    let mut set = 0;
+    let mut set = empty();
     let mut v = n;
     while v < next {
         set = union(set, single(v));

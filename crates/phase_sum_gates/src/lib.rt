@@ -15,7 +15,9 @@ use phase_sum_terms::Parity;
 use phase_sum_terms::Phase;
 use phase_sum_terms::Run;
 use phase_sum_terms::sets::exclusive_or;
+use phase_sum_terms::sets::load;
 use phase_sum_terms::sets::single;
+use phase_sum_terms::sets::store;
 use phase_sum_terms::terms::add;
 use phase_sum_terms::terms::append;
 use phase_sum_terms::terms::negate;
@@ -76,7 +78,8 @@ fn add_wire(ws: &mut [u64], fs: &mut [bool], control: usize, target: usize)
     requires { ⌜ (control < length (now ws)) × (target < length (now ws)) × (length (now fs) ≡ length (now ws)) ⌝ }
     ensures { λ _. ⌜ Moves (two CX control target) (zipWires (now (ws .entry)) (now (fs .entry))) (zipWires (now (ws .exit)) (now (fs .exit))) ⌝ }
 {
-    ws[target] = exclusive_or(ws[target], ws[control]);
+    let sum = exclusive_or(load(ws, target), load(ws, control));
+    store(ws, target, sum);
     fs[target] = fs[target] != fs[control];
 }
 
@@ -85,12 +88,10 @@ fn swap_wires(ws: &mut [u64], fs: &mut [bool], a: usize, b: usize)
     requires { ⌜ (a < length (now ws)) × (b < length (now ws)) × (length (now fs) ≡ length (now ws)) ⌝ }
     ensures { λ _. ⌜ Moves (two SWAP a b) (zipWires (now (ws .entry)) (now (fs .entry))) (zipWires (now (ws .exit)) (now (fs .exit))) ⌝ }
 {
-    let set = ws[a];
-    let flip = fs[a];
-    ws[a] = ws[b];
-    fs[a] = fs[b];
-    ws[b] = set;
-    fs[b] = flip;
+    let first = wire(ws, fs, a);
+    let second = wire(ws, fs, b);
+    set_wire(ws, fs, a, second);
+    set_wire(ws, fs, b, first);
 }
 
 // Does the gate only move wires: X, CX, SWAP?

@@ -10,15 +10,20 @@ ghost use Rattle.amplitude.specs.Bits.{bit};
 ghost use Rattle.phase_sum_meaning.specs.Parity.{of, replaceIn};
 ghost use Rattle.phase_sum_meaning.specs.Phase.{minus, rebuild, inOdd};
 ghost use Rattle.phase_sum_meaning.specs.Stepping.{replace, outOf, halfSum, oddHalves, takeOut, turned};
-ghost use Rattle.phase_sum_terms.specs.Workspace.{held, parityOf, zipWires, Stored, lent, before, after, Stands, Changed, TermsChanged};
+ghost use Rattle.phase_sum_meaning.specs.Room.{mostVariables};
+ghost use Rattle.phase_sum_terms.specs.Workspace.{setOf, held, parityOf, zipWires, Stored, lent, before, after, Stands, Changed, TermsChanged};
 ghost use Rattle.phase_sum_terms.specs.Inner.{sentTo};
 use phase_sum_merging::canonical;
 use phase_sum_terms::Parity;
 use phase_sum_terms::Phase;
 use phase_sum_terms::Sum;
+use phase_sum_terms::sets::Set;
+use phase_sum_terms::sets::empty;
 use phase_sum_terms::sets::exclusive_or;
 use phase_sum_terms::sets::holds;
+use phase_sum_terms::sets::load;
 use phase_sum_terms::sets::single;
+use phase_sum_terms::sets::store;
 use phase_sum_terms::sets::union;
 use phase_sum_terms::sets::without;
 use phase_sum_terms::terms::add;
@@ -29,12 +34,13 @@ use phase_sum_terms::wires::wire;
 
 // A wire with the variable z replaced by the parity p.
 fn replace_in(w: Parity, z: u32, p: Parity) -> Parity
-    requires { ⌜ z < 64 ⌝ }
+    requires { ⌜ z < mostVariables ⌝ }
     ensures { λ r. ⌜ parityOf r ≡ replaceIn z (parityOf p) (parityOf w) ⌝ }
 {
-    if holds(w.set, z) {
+    let set = w.set;
+    if holds(set, z) {
         return Parity {
-            set: exclusive_or(exclusive_or(w.set, single(z)), p.set),
+            set: exclusive_or(exclusive_or(set, single(z)), p.set),
             flipped: w.flipped != p.flipped,
         };
     }
@@ -43,7 +49,7 @@ fn replace_in(w: Parity, z: u32, p: Parity) -> Parity
 
 // The variable z replaced by the parity p in every wire.
 fn replace_in_wires(ws: &mut [u64], fs: &mut [bool], z: u32, p: Parity)
-    requires { ⌜ (z < 64) × (length (now fs) ≡ length (now ws)) ⌝ }
+    requires { ⌜ (z < mostVariables) × (length (now fs) ≡ length (now ws)) ⌝ }
     ensures { λ _. ⌜ zipWires (now (ws .exit)) (now (fs .exit)) ≡ map (replaceIn z (parityOf p)) (zipWires (now (ws .entry)) (now (fs .entry))) ⌝ }
 {
     let mut q = 0;
@@ -76,7 +82,7 @@ fn with_flip(constant: u8, coeff: u8, flipped: bool) -> u8
 
 // The variable z replaced by the parity p in every term, unmerged. Returns the constant.
 fn replace_unmerged(sets: &mut [u64], coeffs: &mut [u8], phase: Phase, z: u32, p: Parity) -> u8
-    requires { ⌜ (z < 64) × (phase .count ≤ length (now sets)) × (phase .count ≤ length (now coeffs)) ⌝ }
+    requires { ⌜ (z < mostVariables) × (phase .count ≤ length (now sets)) × (phase .count ≤ length (now coeffs)) ⌝ }
     ensures constant { λ r. ⌜ r ≡ rebuild (λ u. replaceIn z (parityOf p) (of u)) (phase .constant) (held (phase .count) (now (sets .entry)) (now (coeffs .entry))) .constant ⌝ }
     ensures terms { λ _. ⌜ Stored (phase .count) (map (sentTo (λ u. replaceIn z (parityOf p) (of u))) (held (phase .count) (now (sets .entry)) (now (coeffs .entry)))) (phase .count) (now (sets .entry)) (now (coeffs .entry)) (now (sets .exit)) (now (coeffs .exit)) ⌝ }
 {
@@ -87,14 +93,14 @@ fn replace_unmerged(sets: &mut [u64], coeffs: &mut [u8], phase: Phase, z: u32, p
         let coeff = coeffs[i];
         let new = replace_in(
             Parity {
-                set: sets[i],
+                set: load(sets, i),
                 flipped: false,
             },
             z,
             p,
         );
         constant = with_flip(constant, coeff, new.flipped);
-        sets[i] = new.set;
+        store(sets, i, new.set);
         coeffs[i] = signed(coeff, new.flipped);
         i += 1;
     }
@@ -111,7 +117,7 @@ pub fn replace(
     sets: &mut [u64],
     coeffs: &mut [u8],
 ) -> Sum
-    requires { ⌜ (z < 64) × Stands sum (lent ws fs sets coeffs) ⌝ }
+    requires { ⌜ (z < mostVariables) × Stands sum (lent ws fs sets coeffs) ⌝ }
     ensures { λ r. ⌜ Changed (replace z (parityOf p)) (sum .phase .count) sum r (before ws fs sets coeffs) (after ws fs sets coeffs) ⌝ }
 {
     let phase = sum.phase;
@@ -129,19 +135,19 @@ pub fn replace(
 
 // The variable y taken out of the first count sets.
 fn take_out_unmerged(sets: &mut [u64], count: usize, y: u32)
-    requires { ⌜ (y < 64) × (count ≤ length (now sets)) ⌝ }
+    requires { ⌜ (y < mostVariables) × (count ≤ length (now sets)) ⌝ }
     ensures { λ _. ⌜ now (sets .exit) ≡ map (outOf y) (take count (now (sets .entry))) ++ drop count (now (sets .entry)) ⌝ }
 {
     let mut i = 0;
     while i < count {
-        sets[i] = without(sets[i], y);
+        store(sets, i, without(load(sets, i), y));
         i += 1;
     }
 }
 
 // The variable y taken out of every term, and the terms merged.
 pub fn take_out(sum: Sum, y: u32, sets: &mut [u64], coeffs: &mut [u8]) -> Sum
-    requires { ⌜ (y < 64) × (sum .phase .count ≤ length (now sets)) × (sum .phase .count ≤ length (now coeffs)) ⌝ }
+    requires { ⌜ (y < mostVariables) × (sum .phase .count ≤ length (now sets)) × (sum .phase .count ≤ length (now coeffs)) ⌝ }
     ensures { λ r. ⌜ TermsChanged (takeOut y) (sum .phase .count) sum r sets coeffs ⌝ }
 {
     let phase = sum.phase;
@@ -171,9 +177,9 @@ fn turn_coeff(c: u8) -> u8
 }
 
 // The variable y taken out of every term, the constant and the term of a turn of c on l added, and the terms merged.
-pub fn turn_out(sum: Sum, y: u32, c: u8, l: u64, sets: &mut [u64], coeffs: &mut [u8]) -> Sum
-    requires { ⌜ (y < 64) × (sum .phase .count < length (now sets)) × (sum .phase .count < length (now coeffs)) ⌝ }
-    ensures { λ r. ⌜ TermsChanged (λ s. turned c l (takeOut y s)) (sum .phase .count + 1) sum r sets coeffs ⌝ }
+pub fn turn_out(sum: Sum, y: u32, c: u8, l: Set, sets: &mut [u64], coeffs: &mut [u8]) -> Sum
+    requires { ⌜ (y < mostVariables) × (sum .phase .count < length (now sets)) × (sum .phase .count < length (now coeffs)) ⌝ }
+    ensures { λ r. ⌜ TermsChanged (λ s. turned c (setOf l) (takeOut y s)) (sum .phase .count + 1) sum r sets coeffs ⌝ }
 {
     let phase = sum.phase;
     let count = phase.count;
@@ -199,7 +205,7 @@ pub fn join_out(
     sets: &mut [u64],
     coeffs: &mut [u8],
 ) -> Sum
-    requires { ⌜ (y < 64) × (z < 64) × Stands sum (lent ws fs sets coeffs) ⌝ }
+    requires { ⌜ (y < mostVariables) × (z < mostVariables) × Stands sum (lent ws fs sets coeffs) ⌝ }
     ensures { λ r. ⌜ Changed (λ s. replace z (parityOf p) (takeOut y s)) (sum .phase .count) sum r (before ws fs sets coeffs) (after ws fs sets coeffs) ⌝ }
 {
     let phase = sum.phase;
@@ -217,24 +223,24 @@ pub fn join_out(
 }
 
 // A term's set where its coefficient is odd, else the empty set.
-fn odd_set(set: u64, coeff: u8) -> u64
-    ensures { λ r. ⌜ r ≡ cond (eqb (coeff % 2) 1) set 0 ⌝ }
+fn odd_set(set: Set, coeff: u8) -> Set
+    ensures { λ r. ⌜ setOf r ≡ cond (eqb (coeff % 2) 1) (setOf set) 0 ⌝ }
 {
     if coeff % 2 == 1 {
         return set;
     }
-    0
+    empty()
 }
 
 // The variables that are in terms of odd coefficient.
-pub fn odd_mask(sets: &[u64], coeffs: &[u8], count: usize) -> u64
+pub fn odd_mask(sets: &[u64], coeffs: &[u8], count: usize) -> Set
     requires { ⌜ (count ≤ length (now sets)) × (count ≤ length (now coeffs)) ⌝ }
-    ensures { λ r. ⌜ ((v : ℕ) → bit v r ≡ inOdd v (held count (now (sets .entry)) (now (coeffs .entry)))) ⌝ }
+    ensures { λ r. ⌜ ((v : ℕ) → bit v (setOf r) ≡ inOdd v (held count (now (sets .entry)) (now (coeffs .entry)))) ⌝ }
 {
-    let mut mask = 0;
+    let mut mask = empty();
     let mut i = 0;
     while i < count {
-        mask = union(mask, odd_set(sets[i], coeffs[i]));
+        mask = union(mask, odd_set(load(sets, i), coeffs[i]));
         i += 1;
     }
     mask
@@ -243,13 +249,13 @@ pub fn odd_mask(sets: &[u64], coeffs: &[u8], count: usize) -> u64
 // The C and L of a variable y: document 01, "Reducing it".
 pub struct Halves {
     pub c: u8,
-    pub l: u64,
+    pub l: Set,
 }
 
 // A term's coefficient where it holds y, else 0.
-fn coeff_with(set: u64, coeff: u8, y: u32) -> u8
-    requires { ⌜ y < 64 ⌝ }
-    ensures { λ r. ⌜ r ≡ cond (bit y set) coeff 0 ⌝ }
+fn coeff_with(set: Set, coeff: u8, y: u32) -> u8
+    requires { ⌜ y < mostVariables ⌝ }
+    ensures { λ r. ⌜ r ≡ cond (bit y (setOf set)) coeff 0 ⌝ }
 {
     if holds(set, y) {
         return coeff;
@@ -258,32 +264,33 @@ fn coeff_with(set: u64, coeff: u8, y: u32) -> u8
 }
 
 // A term's set without y where it holds y and its half coefficient is odd, else the empty set.
-fn odd_half(set: u64, coeff: u8, y: u32) -> u64
-    requires { ⌜ y < 64 ⌝ }
-    ensures { λ r. ⌜ r ≡ cond (bit y set) (cond (eqb (coeff / 2 % 2) 1) (outOf y set) 0) 0 ⌝ }
+fn odd_half(set: Set, coeff: u8, y: u32) -> Set
+    requires { ⌜ y < mostVariables ⌝ }
+    ensures { λ r. ⌜ setOf r ≡ cond (bit y (setOf set)) (cond (eqb (coeff / 2 % 2) 1) (outOf y (setOf set)) 0) 0 ⌝ }
 {
     if holds(set, y) {
         if coeff / 2 % 2 == 1 {
             return without(set, y);
         }
-        return 0;
+        return empty();
     }
-    0
+    empty()
 }
 
 // C: half the sum of the coefficients of the terms that hold y, mod 4. L: the exclusive or of their sets without y, over those
 // whose half coefficient is odd.
 pub fn halves_of(sets: &[u64], coeffs: &[u8], count: usize, y: u32) -> Halves
-    requires { ⌜ (y < 64) × (count ≤ length (now sets)) × (count ≤ length (now coeffs)) ⌝ }
+    requires { ⌜ (y < mostVariables) × (count ≤ length (now sets)) × (count ≤ length (now coeffs)) ⌝ }
     ensures c { λ r. ⌜ r .c ≡ halfSum y (held count (now (sets .entry)) (now (coeffs .entry))) ⌝ }
-    ensures l { λ r. ⌜ r .l ≡ oddHalves y (held count (now (sets .entry)) (now (coeffs .entry))) ⌝ }
+    ensures l { λ r. ⌜ setOf (r .l) ≡ oddHalves y (held count (now (sets .entry)) (now (coeffs .entry))) ⌝ }
 {
     let mut sum = 0;
-    let mut l = 0;
+    let mut l = empty();
     let mut i = 0;
     while i < count {
-        sum = add(sum, coeff_with(sets[i], coeffs[i], y));
-        l = exclusive_or(l, odd_half(sets[i], coeffs[i], y));
+        let set = load(sets, i);
+        sum = add(sum, coeff_with(set, coeffs[i], y));
+        l = exclusive_or(l, odd_half(set, coeffs[i], y));
         i += 1;
     }
     Halves { c: sum / 2, l }

@@ -13,11 +13,12 @@ use Rattle.phase_sum_meaning.specs.Sets.{without, Among, here, there}
 use Rattle.phase_sum_meaning.specs.Parity.{Parity}
 use Rattle.phase_sum_meaning.specs.Building.{PathSum}
 use Rattle.phase_sum_meaning.specs.Stepping.{replace, takeOut, turned}
+use Rattle.phase_sum_meaning.specs.Room.{mostVariables}
 use Rattle.phase_sum_meaning.proofs.Roominess.{terms-replace, terms-takeOut, terms-turned}
-use Rattle.phase_sum_terms.specs.Workspace.{held, Phased, Lent, wiresIn, members, sumOf, Stands, Became, Sized}
+use Rattle.phase_sum_terms.specs.Workspace.{setOf, held, Phased, Lent, wiresIn, members, sumOf, Stands, Became, Sized}
 use Rattle.phase_sum_terms.specs.declared.Sum.{Sum}
 use Rattle.phase_sum_terms.proofs.Storing.{length-held, stored-held}
-use Rattle.phase_sum_terms.proofs.Members.{members-hold}
+use Rattle.phase_sum_terms.proofs.Members.{members-hold, some-length}
 use Rattle.phase_sum_terms.proofs.Running.{AsLong}
 
 -- a sum whose phase, wires and variables left are those of a path sum stands for it
@@ -25,7 +26,7 @@ pub became :
     (t : PathSum) {m : ℕ} (r : Sum) (l l′ : Lent) →
     Phased (t .phase) m (r .phase) (l .sets) (l .coeffs) (l′ .sets) (l′ .coeffs) →
     wiresIn l′ ≡ t .wires →
-    members (r .live) ≡ t .live →
+    members (setOf (r .live)) ≡ t .live →
     Became t m r l l′
 became t r l l′ p wires live =
     record { sum = rw (p .constant, stored-held (p .terms), wires, live); terms = p .terms }
@@ -76,20 +77,15 @@ pub room-turned : (k l y : ℕ) (s : PathSum) → Among y (s .live) → roomIn (
 unfolding takeOut turned
 room-turned k l y s a = omega (arith, terms-turned k l (takeOut y s), terms-takeOut y s, without-less a)
 
--- a list that holds something is not empty
-holds-some : {v : ℕ} {vs : List ℕ} → Among v vs → 1 ≤ length vs
-holds-some here = omega arith
-holds-some (there a) = omega arith
-
 -- where a variable is left, the terms leave a place
 pub place-left :
     (s : Sum) (y : ℕ) {l : Lent} →
     Sized s l →
-    bit y (s .live) ≡ true →
-    y < 64 →
+    bit y (setOf (s .live)) ≡ true →
+    y < mostVariables →
     (s .phase .count < length (l .sets)) × (s .phase .count < length (l .coeffs))
 place-left s y z left low =
-    let some = holds-some (members-hold (s .live) y left low) in
+    let some = some-length (members-hold (setOf (s .live)) y left low) in
     (omega (arith, some, z .sets), omega (arith, some, z .coeffs))
 
 -- a change that makes no more terms and variables leaves a sum with room

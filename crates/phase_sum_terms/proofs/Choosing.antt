@@ -9,6 +9,7 @@ use lib.Dec.{eqb}
 use Rattle.amplitude.specs.Bits.{bit}
 use Rattle.amplitude.proofs.BitLaws.{rest-below}
 use Rattle.phase_sum_meaning.specs.Sets.{firstSuch, firstIn, from}
+use Rattle.phase_sum_meaning.specs.Room.{mostVariables}
 use Rattle.phase_sum_meaning.proofs.SetLaws.{bit-△}
 use Rattle.phase_sum_terms.proofs.Words.{xor-sets}
 use Rattle.phase_sum_terms.specs.Workspace.{members}
@@ -42,10 +43,10 @@ bit-except : (v a b : ℕ) → bit v (bitXor a (bitAnd a b)) ≡ bit v a && not 
 bit-except v a b = rw (xor-sets, bit-△, bit-and) (and-not (bit v a) (bit v b))
 
 -- the lowest variable of the intersection is the first of the members that the other set holds
-pub lowest-within : (a b : ℕ) → firstSuch (λ v. bit v (bitAnd a b)) (from 0 64) ≡ firstIn (members a) b
-lowest-within a b = simp bit-and (sym (first-among (λ v. bit v b) a (from 0 64)))
+pub lowest-within : (a b : ℕ) → firstSuch (λ v. bit v (bitAnd a b)) (from 0 mostVariables) ≡ firstIn (members a) b
+lowest-within a b = simp bit-and (sym (first-among (λ v. bit v b) a (from 0 mostVariables)))
 
 -- the lowest variable of the difference is the first of the members that the other set does not hold
 pub lowest-except :
-    (a b : ℕ) → firstSuch (λ v. bit v (bitXor a (bitAnd a b))) (from 0 64) ≡ firstSuch (λ v. not (bit v b)) (members a)
-lowest-except a b = simp bit-except (sym (first-among (λ v. not (bit v b)) a (from 0 64)))
+    (a b : ℕ) → firstSuch (λ v. bit v (bitXor a (bitAnd a b))) (from 0 mostVariables) ≡ firstSuch (λ v. not (bit v b)) (members a)
+lowest-except a b = simp bit-except (sym (first-among (λ v. not (bit v b)) a (from 0 mostVariables)))

@@ -1,4 +1,4 @@
--- The members of a set of at most 64 variables, in rising order: which is the lowest, how many there are, and one taken out.
+-- The members of a set of no more variables than a pair may have, in rising order: which is the lowest, how many there are, and one taken out.
 -- Assumes nothing.
 use mathlib.Core.Path.{_≡_, refl, sym, _∙_, ap}
 use Prim.Native.Nat.{ℕ, zero, suc, _/_, _%_, _^_, _<_}
@@ -17,6 +17,7 @@ use Rattle.amplitude.proofs.BitLaws.{digit-eqb, rest-below, bit-zero, bit-above
 use Rattle.amplitude.proofs.XorLaws.{xor-falseʳ}
 use Rattle.phase_sum_meaning.specs.Sets.{_△_, single, firstSuch, from, without, Among, here, there}
 use Rattle.phase_sum_meaning.specs.Stepping.{outOf}
+use Rattle.phase_sum_meaning.specs.Room.{mostVariables}
 use Rattle.phase_sum_meaning.proofs.SetLaws.{bit-△}
 use Rattle.phase_sum_meaning.proofs.TakingOut.{outOf-free}
 use Rattle.phase_sum_meaning.proofs.VariableLaws.{among-cases, among-from, from-among}
@@ -56,12 +57,12 @@ held-among s {v} (there {u = u} {us = us} a) e = go (bit u s) (held-among s a e)
     go false later = later
 
 -- a variable of the set is among its members
-pub members-hold : (s v : ℕ) → bit v s ≡ true → v < 64 → Among v (members s)
-members-hold s v e l = held-among s (among-from 0 64 v (omega arith) l) e
+pub members-hold : (s v : ℕ) → bit v s ≡ true → v < mostVariables → Among v (members s)
+members-hold s v e l = held-among s (among-from 0 mostVariables v (omega arith) l) e
 
 -- a member is a variable of the set
-pub member-held : (s v : ℕ) → Among v (members s) → (bit v s ≡ true) × (v < 64)
-member-held s v a = let r = among-held s (from 0 64) a in (r .1, from-among 0 64 (r .0) .1)
+pub member-held : (s v : ℕ) → Among v (members s) → (bit v s ≡ true) × (v < mostVariables)
+member-held s v a = let r = among-held s (from 0 mostVariables) a in (r .1, from-among 0 mostVariables (r .0) .1)
 
 -- taking a variable out leaves the others
 bit-outOf-other : (u v s : ℕ) → (u ≡ v → ⊥) → bit u (outOf v s) ≡ bit u s
@@ -89,7 +90,7 @@ among-without s v (u ∷ us) = go (eqb u v) (bit u s) refl refl (among-without s
 
 -- a variable taken out of the set is taken out of its members
 pub members-without : (s v : ℕ) → members (outOf v s) ≡ without v (members s)
-members-without s v = among-without s v (from 0 64)
+members-without s v = among-without s v (from 0 mostVariables)
 
 -- the half of a set has as many members, each one place lower
 length-half : (s a k : ℕ) → length (among s (from (suc a) k)) ≡ length (among (s / 2) (from a k))
@@ -126,21 +127,21 @@ length-first (suc k) s l =
     go false e later = omega (arith, ones-step s)
 
 -- as many members as ones
-pub length-members : (s : ℕ) → s < 2 ^ 64 → length (members s) ≡ ones s
-length-members s l = length-first 64 s l
+pub length-members : (s : ℕ) → s < 2 ^ mostVariables → length (members s) ≡ ones s
+length-members s l = length-first mostVariables s l
 
 -- a list that has something is not empty
-some-length : {v : ℕ} {vs : List ℕ} → Among v vs → 0 < length vs
+pub some-length : {v : ℕ} {vs : List ℕ} → Among v vs → 0 < length vs
 some-length here = omega arith
 some-length (there a) = omega arith
 
 -- no members: the empty set
-pub members-none : (s : ℕ) → s < 2 ^ 64 → members s ≡ [] → s ≡ 0
-members-none s l e = bits-ext s 0 (λ q. go q (ltb q 64) (bit q s) refl refl ∙ sym (bit-zero q))
+pub members-none : (s : ℕ) → s < 2 ^ mostVariables → members s ≡ [] → s ≡ 0
+members-none s l e = bits-ext s 0 (λ q. go q (ltb q mostVariables) (bit q s) refl refl ∙ sym (bit-zero q))
   where
-    go : (q : ℕ) (a b : Bool) → ltb q 64 ≡ a → bit q s ≡ b → bit q s ≡ false
-    go q true true small h = absurd (omega (arith, some-length (members-hold s q h (ltb-true q 64 small)), ap length e))
-    go q false true small h = bit-above 64 q s l (ltb-false q 64 small)
+    go : (q : ℕ) (a b : Bool) → ltb q mostVariables ≡ a → bit q s ≡ b → bit q s ≡ false
+    go q true true small h = absurd (omega (arith, some-length (members-hold s q h (ltb-true q mostVariables small)), ap length e))
+    go q false true small h = bit-above mostVariables q s l (ltb-false q mostVariables small)
     go q a false small h = h
 
 -- the lowest variable of the half of a set, one place higher
@@ -174,8 +175,8 @@ lowest-first (suc k) s l ne = go (bit 0 s) (low-digit s) (lowest-first k (s / 2)
     go false e later = rw (← e) (lowest-half s 0 k (trailingZeros k (s / 2)) (later (λ h. ne (omega arith))))
 
 -- the lowest variable of a set that is not empty
-pub lowest-variable : (s : ℕ) → s < 2 ^ 64 → (s ≡ 0 → ⊥) → firstSuch (λ v. bit v s) (from 0 64) ≡ some (trailingZeros 64 s)
-lowest-variable s l ne = lowest-first 64 s l ne
+pub lowest-variable : (s : ℕ) → s < 2 ^ mostVariables → (s ≡ 0 → ⊥) → firstSuch (λ v. bit v s) (from 0 mostVariables) ≡ some (trailingZeros mostVariables s)
+lowest-variable s l ne = lowest-first mostVariables s l ne
 
 -- the empty set holds nothing of a list
 nothing-in : (vs : List ℕ) → firstSuch (λ v. bit v 0) vs ≡ none
@@ -184,5 +185,5 @@ nothing-in [] = refl
 nothing-in (v ∷ vs) = rw (bit-zero v) (nothing-in vs)
 
 -- the empty set has none
-pub lowest-none : firstSuch (λ v. bit v 0) (from 0 64) ≡ none
-lowest-none = nothing-in (from 0 64)
+pub lowest-none : firstSuch (λ v. bit v 0) (from 0 mostVariables) ≡ none
+lowest-none = nothing-in (from 0 mostVariables)

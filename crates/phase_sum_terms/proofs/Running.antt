@@ -20,10 +20,11 @@ use Rattle.phase_sum_meaning.specs.Sets.{single, from}
 use Rattle.phase_sum_meaning.specs.Parity.{Parity, of, _⊕_, complement}
 use Rattle.phase_sum_meaning.specs.Phase.{Term, Phase as Polynomial, minus, addConstant, addTerm, addPhase}
 use Rattle.phase_sum_meaning.specs.Building.{PathSum, initial, wire, setWire, withPhase, hadamard, gate, build}
-use Rattle.phase_sum_meaning.specs.Room.{roomFor, room}
-use Rattle.phase_sum_terms.specs.Workspace.{held, setsOf, coeffsOf, over, Stored, merged, parityOf, zipWires, Lent, slices, wiresIn, members}
+use Rattle.phase_sum_meaning.specs.Room.{roomFor, room, mostVariables}
+use Rattle.phase_sum_terms.specs.Workspace.{setOf, held, setsOf, coeffsOf, over, Stored, merged, parityOf, zipWires, Lent, slices, wiresIn, members}
 use Rattle.phase_sum_terms.specs.Unmerged.{gatesIn, phaseTerm, productTerms, gateTerms, appendGate, appendGates, sumIn, Runnable, Leaves, movesOnly, Moves, placesTaken, Builds, Buildable}
 use Rattle.phase_sum_terms.specs.Inner.{phaseConstant, productConstant, appendPhase, onH}
+use Rattle.phase_sum_terms.specs.declared.sets.Set.{Set}
 use Rattle.phase_sum_terms.specs.declared.Phase.{Phase}
 use Rattle.phase_sum_terms.specs.declared.Parity.{Parity as ParityWord}
 use Rattle.phase_sum_terms.specs.declared.Run.{Run}
@@ -628,10 +629,10 @@ stored-fresh {ts} {r} {ss} {cs} e =
 
 -- all gates run on the sum of no gates, and the terms merged, make the built sum
 pub built :
-    (gs : List Gate) {s : Run} {k live : ℕ} {l l₁ : Lent} {ss cs : List ℕ} →
+    (gs : List Gate) {s : Run} {k : ℕ} {live : Set} {l l₁ : Lent} {ss cs : List ℕ} →
     ToRun (appendGates (length (l .wires)) gs (initial 0 (length (l .wires)))) [] 0 s l l₁ →
     Stored (s .phase .count) (merged (held (s .phase .count) (l₁ .sets) (l₁ .coeffs))) k (l₁ .sets) (l₁ .coeffs) ss cs →
-    members live ≡ from (length (l .wires)) (s .next - length (l .wires)) →
+    members (setOf live) ≡ from (length (l .wires)) (s .next - length (l .wires)) →
     Builds gs (record { live = live; phase = record { constant = s .phase .constant; count = k } }) l
     (slices (l₁ .wires) (l₁ .flips) ss cs)
 unfolding withPhase
@@ -654,6 +655,6 @@ built gs {s} {l = l} run stored left =
     })
 
 -- how many variables are in use then
-pub all-variables : {u : PathSum} {m : ℕ} {s : Run} {l l₁ : Lent} → ToRun u [] m s l l₁ → (length (l₁ .wires) ≤ s .next) × (s .next ≤ 64)
+pub all-variables : {u : PathSum} {m : ℕ} {s : Run} {l l₁ : Lent} → ToRun u [] m s l l₁ → (length (l₁ .wires) ≤ s .next) × (s .next ≤ mostVariables)
 unfolding tally
 all-variables run = (run .fits .started, omega (arith, run .fits .variables))

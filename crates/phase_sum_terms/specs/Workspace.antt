@@ -15,11 +15,17 @@ use Rattle.phase_sum_meaning.specs.Parity.{Parity, of}
 use Rattle.phase_sum_meaning.specs.Phase as phase
 use Rattle.phase_sum_meaning.specs.Phase.{Term, term, rebuild}
 use Rattle.phase_sum_meaning.specs.Building.{PathSum}
+use Rattle.phase_sum_meaning.specs.Room.{mostVariables}
+use Rattle.phase_sum_terms.specs.declared.sets.Set.{Set}
 use Rattle.phase_sum_terms.specs.declared.Phase.{Phase}
 use Rattle.phase_sum_terms.specs.declared.Parity.{Parity as ParityWord}
 use Rattle.phase_sum_terms.specs.declared.Sum.{Sum}
 use Rattle.phase_sum_terms.specs.declared.Found.{Found}
 use Rattle.phase_sum_terms.specs.declared.Found.the-variants.{Variable, Nothing}
+
+-- the set that a word stands for
+abbrev pub setOf : Set → ℕ
+setOf s = s .word
 
 -- terms by their sets and coefficients
 unfoldable pub zipTerms : List ℕ → List ℕ → List Term
@@ -73,7 +79,7 @@ alone φ = record { phase = φ; wires = []; live = [] }
 
 -- the parity that a set and a constant bit stand for
 abbrev pub parityOf : ParityWord → Parity
-parityOf w = record { vars = w .set; flipped = w .flipped }
+parityOf w = record { vars = setOf (w .set); flipped = w .flipped }
 
 -- parities by their sets and constants
 unfoldable pub zipWires : List ℕ → List Bool → List Parity
@@ -117,9 +123,9 @@ unfoldable pub among : ℕ → List ℕ → List ℕ
 among s [] = []
 among s (v ∷ vs) = cond (bit v s) (v ∷ among s vs) (among s vs)
 
--- the members of a set of at most 64 variables, in rising order
+-- the members of a set of no more variables than a pair may have, in rising order
 abbrev pub members : ℕ → List ℕ
-members s = among s (from 0 64)
+members s = among s (from 0 mostVariables)
 
 -- what a search for a variable found
 abbrev pub foundOf : Found → Option ℕ
@@ -128,7 +134,7 @@ foundOf Nothing = none
 
 -- the path sum that a sum and its slices stand for
 abbrev pub sumOf : Sum → Lent → PathSum
-sumOf s l = record { phase = phaseOf (s .phase) (l .sets) (l .coeffs); wires = wiresIn l; live = members (s .live) }
+sumOf s l = record { phase = phaseOf (s .phase) (l .sets) (l .coeffs); wires = wiresIn l; live = members (setOf (s .live)) }
 
 -- what changing a sum asks of its slices: a constant bit for each wire, and as many places as there are terms
 pub record Stands (s : Sum) (l : Lent) : Type 0 where
@@ -156,5 +162,5 @@ TermsChanged f m s r ss cs =
 pub record Sized (s : Sum) (l : Lent) : Type 0 where
   pub few : length (l .wires) ≤ 16
   pub flips : length (l .flips) ≡ length (l .wires)
-  pub sets : s .phase .count + length (members (s .live)) ≤ length (l .sets)
-  pub coeffs : s .phase .count + length (members (s .live)) ≤ length (l .coeffs)
+  pub sets : s .phase .count + length (members (setOf (s .live))) ≤ length (l .sets)
+  pub coeffs : s .phase .count + length (members (setOf (s .live))) ≤ length (l .coeffs)

@@ -2,17 +2,18 @@
 // many of the first places as the sum counts. Document 01, "Building the sum" and "Reducing it". What a path sum is stands in
 // phase_sum_meaning; specs/Workspace.antt says what the workspaces hold.
 //
-// These take any arguments: sets::exclusive_or, sets::union, sets::parity, terms::add, terms::negate, counting::h_gates, counting::t_gates.
-// The other functions of the layer have a `requires` (variables below 64, as many places as terms; for building, gates within n, at most 64
-// variables, and places for the room of the gates), which their callers' proofs meet.
+// The functions of the layer that have a `requires` ask for variables below the most that a set can hold, for as many places as terms, or, for
+// building, for gates within n, no more variables than a set can hold and places for the room of the gates. Their callers' proofs meet that.
 pub mod counting;
 pub mod sets;
 pub mod terms;
 pub mod wires;
 
+use sets::Set;
+
 // A parity: of a set of variables, complemented where flipped. A wire of document 01 is one; so is what a pin or a join sets to 0.
 pub struct Parity {
-    pub set: u64,
+    pub set: Set,
     pub flipped: bool,
 }
 
@@ -26,7 +27,7 @@ pub struct Phase {
 // in the workspaces.
 pub struct Sum {
     // the path variables that are left
-    pub live: u64,
+    pub live: Set,
     pub phase: Phase,
 }
 

@@ -6,9 +6,12 @@ ghost use mathlib.Core.List.{[], _∷_, _++_};
 ghost use lib.ListN.{length, take, drop, replicate};
 ghost use Rattle.phase_sum_meaning.specs.Sets.{parity};
 ghost use Rattle.phase_sum_meaning.specs.Phase.{term, minus, phaseAt};
-ghost use Rattle.phase_sum_terms.specs.Workspace.{held, Stored};
+ghost use Rattle.phase_sum_terms.specs.Workspace.{setOf, held, Stored};
 use crate::Phase;
-use crate::sets;
+use crate::sets::Set;
+use crate::sets::load;
+use crate::sets::parity;
+use crate::sets::store;
 
 // The sum of two coefficients mod 8.
 pub fn add(a: u8, b: u8) -> u8
@@ -25,11 +28,11 @@ pub fn negate(c: u8) -> u8
 }
 
 // A term behind the first count terms, unmerged. Returns the new count.
-pub fn append(sets: &mut [u64], coeffs: &mut [u8], count: usize, set: u64, coeff: u8) -> usize
+pub fn append(sets: &mut [u64], coeffs: &mut [u8], count: usize, set: Set, coeff: u8) -> usize
     requires { ⌜ (count < length (now sets)) × (count < length (now coeffs)) ⌝ }
-    ensures { λ r. ⌜ Stored count (held count (now (sets .entry)) (now (coeffs .entry)) ++ term set coeff ∷ []) r (now (sets .entry)) (now (coeffs .entry)) (now (sets .exit)) (now (coeffs .exit)) ⌝ }
+    ensures { λ r. ⌜ Stored count (held count (now (sets .entry)) (now (coeffs .entry)) ++ term (setOf set) coeff ∷ []) r (now (sets .entry)) (now (coeffs .entry)) (now (sets .exit)) (now (coeffs .exit)) ⌝ }
 {
-    sets[count] = set;
+    store(sets, count, set);
     coeffs[count] = coeff;
     count + 1
 }
@@ -77,10 +80,10 @@ pub fn clear(sets: &mut [u64], coeffs: &mut [u8], places: usize)
 }
 
 // A coefficient where the term's parity is 1 at the input, else 0.
-fn share(set: u64, coeff: u8, input: u64) -> u8
-    ensures { λ r. ⌜ r ≡ cond (parity set input) coeff 0 ⌝ }
+fn share(set: Set, coeff: u8, input: u64) -> u8
+    ensures { λ r. ⌜ r ≡ cond (parity (setOf set) input) coeff 0 ⌝ }
 {
-    if sets::parity(set, input) {
+    if parity(set, input) {
         return coeff;
     }
     0
@@ -95,7 +98,7 @@ pub fn phase_at(sets: &[u64], coeffs: &[u8], phase: Phase, input: u64) -> u8
     let mut sum = add(phase.constant, 0);
     let mut i = 0;
     while i < count {
-        sum = add(sum, share(sets[i], coeffs[i], input));
+        sum = add(sum, share(load(sets, i), coeffs[i], input));
         i += 1;
     }
     sum

@@ -5,6 +5,8 @@ ghost use lib.ListN.{length, getD, set};
 ghost use Rattle.phase_sum_meaning.specs.Parity.{of};
 ghost use Rattle.phase_sum_terms.specs.Workspace.{parityOf, zipWires};
 use crate::Parity;
+use crate::sets::load;
+use crate::sets::store;
 
 // Wire q.
 pub fn wire(ws: &[u64], fs: &[bool], q: usize) -> Parity
@@ -12,7 +14,7 @@ pub fn wire(ws: &[u64], fs: &[bool], q: usize) -> Parity
     ensures { λ r. ⌜ parityOf r ≡ getD (zipWires (now (ws .entry)) (now (fs .entry))) q (of 0) ⌝ }
 {
     Parity {
-        set: ws[q],
+        set: load(ws, q),
         flipped: fs[q],
     }
 }
@@ -22,6 +24,6 @@ pub fn set_wire(ws: &mut [u64], fs: &mut [bool], q: usize, w: Parity)
     requires { ⌜ (q < length (now ws)) × (q < length (now fs)) ⌝ }
     ensures { λ _. ⌜ zipWires (now (ws .exit)) (now (fs .exit)) ≡ set (zipWires (now (ws .entry)) (now (fs .entry))) q (parityOf w) ⌝ }
 {
-    ws[q] = w.set;
+    store(ws, q, w.set);
     fs[q] = w.flipped;
 }

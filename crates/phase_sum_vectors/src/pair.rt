@@ -15,6 +15,7 @@ use crate::steps::State;
 use crate::steps::Wires;
 use phase_sum_terms::Sum;
 use phase_sum_terms::counting::h_gates;
+use phase_sum_terms::sets::count;
 use record_format::Checked;
 use record_format::HEAD_SIZE;
 use record_reading::check;
@@ -54,7 +55,7 @@ fn few_variables(n: usize, first: &[u8], second: &[u8]) -> bool
 // A sum on n qubits: the next variable, the constant and the terms on a line, and the wires.
 fn show(n: usize, sum: Sum, wires: Wires, sets: &[u64], coeffs: &[u8]) {
     let phase = sum.phase;
-    print::number(std::num::wrapping_add_u64(n as u64, u64::count_ones(sum.live) as u64));
+    print::number(std::num::wrapping_add_u64(n as u64, count(sum.live) as u64));
     print::number(print::wide(phase.constant));
     print::terms(sets, coeffs, phase.count);
     print::end();

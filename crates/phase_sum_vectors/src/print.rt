@@ -1,11 +1,17 @@
 // Numbers in decimal, a space behind each, and line ends.
 use crate::steps::Wires;
 use libc::STDOUT_FILENO;
+use phase_sum_terms::sets::Set;
 
 // A number and a space.
 pub(crate) fn number(x: u64) {
     io::print_decimal(STDOUT_FILENO, x);
     io::write_all(STDOUT_FILENO, b" ");
+}
+
+// A set as its word, and a space.
+pub(crate) fn set(s: Set) {
+    number(s.word);
 }
 
 // The end of a line.

@@ -1,6 +1,7 @@
 // What each row does: one function of the phase-sum layer, on the terms and wires that earlier rows left.
 ghost use Prim.Native.Nat.{_<_, _≤_};
 ghost use lib.ListN.{length};
+ghost use Rattle.phase_sum_meaning.specs.Room.{mostVariables};
 use crate::pair;
 use crate::print;
 use crate::row;
@@ -8,7 +9,10 @@ use crate::row::Row;
 use phase_sum_terms::Parity;
 use phase_sum_terms::Phase;
 use phase_sum_terms::Sum;
-use phase_sum_terms::sets;
+use phase_sum_terms::sets::Set;
+use phase_sum_terms::sets::empty;
+use phase_sum_terms::sets::parity;
+use phase_sum_terms::sets::single;
 use phase_sum_terms::terms;
 
 // The qubits that the wires have places for.
@@ -85,9 +89,17 @@ fn change(phase: Phase, r: Row, body: &[u8], sets: &mut [u64], coeffs: &mut [u8]
 
 // A variable taken out.
 fn taken_out(phase: Phase, v: u32, sets: &mut [u64], coeffs: &mut [u8]) -> Phase
-    requires { ⌜ (v < 64) × (phase .count ≤ length (now sets)) × (phase .count ≤ length (now coeffs)) ⌝ }
+    requires { ⌜ (v < mostVariables) × (phase .count ≤ length (now sets)) × (phase .count ≤ length (now coeffs)) ⌝ }
 {
-    let sum = phase_sum_stepping::take_out(Sum { live: 0, phase }, v, sets, coeffs);
+    let sum = phase_sum_stepping::take_out(
+        Sum {
+            live: empty(),
+            phase,
+        },
+        v,
+        sets,
+        coeffs,
+    );
     let out = sum.phase;
     out
 }
@@ -113,10 +125,21 @@ fn replaced_in(
     }
     let z = (r.variable % 64) as u32;
     let p = Parity {
-        set: r.set,
+        set: Set { word: r.set },
         flipped: r.flipped,
     };
-    let sum = phase_sum_stepping::replace(Sum { live: 0, phase }, z, p, ws, fs, sets, coeffs);
+    let sum = phase_sum_stepping::replace(
+        Sum {
+            live: empty(),
+            phase,
+        },
+        z,
+        p,
+        ws,
+        fs,
+        sets,
+        coeffs,
+    );
     let new = sum.phase;
     new
 }
@@ -148,7 +171,7 @@ fn append(phase: Phase, r: Row, sets: &mut [u64], coeffs: &mut [u8]) -> Phase {
     }
     Phase {
         constant: phase.constant,
-        count: terms::append(sets, coeffs, count, r.set, r.constant),
+        count: terms::append(sets, coeffs, count, Set { word: r.set }, r.constant),
     }
 }
 
@@ -164,14 +187,14 @@ fn ask(phase: Phase, r: Row, sets: &[u64], coeffs: &[u8]) {
     let function = r.function;
     let v = (r.variable % 64) as u32;
     match function {
-        row::ODD_MASK => print::number(phase_sum_stepping::odd_mask(sets, coeffs, count)),
+        row::ODD_MASK => print::set(phase_sum_stepping::odd_mask(sets, coeffs, count)),
         row::HALVES => {
             let h = phase_sum_stepping::halves_of(sets, coeffs, count, v);
             print::number(print::wide(h.c));
-            print::number(h.l);
+            print::set(h.l);
         }
         row::PHASE_AT => print::number(print::wide(terms::phase_at(sets, coeffs, phase, r.set))),
-        row::PARITY => print::bit(sets::parity(r.set, sets::single(v))),
+        row::PARITY => print::bit(parity(Set { word: r.set }, 1u64 << v)),
         _ => {}
     }
 }

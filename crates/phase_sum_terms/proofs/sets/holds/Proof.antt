@@ -1,6 +1,7 @@
 -- `phase_sum_terms::sets::holds` meets its contract: the set is shifted down until the variable's bit is the lowest.
 -- Assumes nothing.
 use borrow.Author.Needs.{needs}
+use Rattle.phase_sum_terms.specs.Workspace.{setOf}
 use Rattle.phase_sum_terms.proofs.Words.{shifted-bit}
 use Rattle.phase_sum_terms.proofs.sets.holds.Statement.{statement}
 use Rattle.phase_sum_terms.proofs.sets.holds.Tie as tie
@@ -9,7 +10,7 @@ shr-result : tie.Need-shr-result
 shr-result c = search needs
 
 returns : tie.Need-returns
-returns c = shifted-bit (c .args .v) (c .args .set)
+returns c = shifted-bit (c .before .args .v) (setOf (c .before .args .s))
 
 pub holds-spec : {M : Type 1} → statement M
 holds-spec = tie.close (tie.spec shr-result returns)

@@ -2,15 +2,16 @@
 -- Assumes nothing.
 use mathlib.Core.Path.{_≡_, sym}
 use native.Mathlib.Omega.{arith}
+use Rattle.phase_sum_terms.specs.Workspace.{setOf}
 use Rattle.phase_sum_terms.proofs.Members.{lowest-variable, lowest-none}
 use Rattle.phase_sum_terms.proofs.sets.lowest.Statement.{statement}
 use Rattle.phase_sum_terms.proofs.sets.lowest.Tie as tie
 
 returns : tie.Need-returns
-returns c = let e : c .before .args .set ≡ 0 = omega arith in simp e (sym lowest-none)
+returns c = let e : setOf (c .before .before .args .s) ≡ 0 = omega arith in simp e (sym lowest-none)
 
 returns-2 : tie.Need-returns-2
-returns-2 c = sym (lowest-variable (c .before .args .set) (omega arith) (omega arith))
+returns-2 c = sym (lowest-variable (setOf (c .before .before .before .args .s)) (omega arith) (omega arith))
 
 pub lowest-spec : {M : Type 1} → statement M
 lowest-spec = tie.close (tie.spec returns returns-2)

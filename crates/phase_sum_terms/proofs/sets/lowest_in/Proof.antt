@@ -2,6 +2,7 @@
 -- Assumes nothing.
 use mathlib.Core.Path.{_∙_}
 use borrow.Author.Needs.{needs}
+use Rattle.phase_sum_terms.specs.Workspace.{setOf}
 use Rattle.phase_sum_terms.proofs.Choosing.{lowest-within}
 use Rattle.phase_sum_terms.proofs.sets.lowest_in.Statement.{statement}
 use Rattle.phase_sum_terms.proofs.sets.lowest_in.Tie as tie
@@ -10,7 +11,7 @@ lowest-requires : tie.Need-lowest-requires
 lowest-requires c κs = search needs
 
 returns : tie.Need-returns
-returns c = c .lowest .ensures ∙ lowest-within (c .before .args .live) (c .before .args .set)
+returns c = c .lowest .ensures ∙ lowest-within (setOf (c .before .before .before .args .live)) (setOf (c .before .before .before .args .s))
 
 pub lowest-in-spec : {M : Type 1} → statement M
 lowest-in-spec = tie.close (tie.spec lowest-requires returns)

@@ -1,5 +1,5 @@
 -- `phase_sum_terms::sets::parity` meets its contract. The loop's invariant: the parity of the bytes passed and that of the bits left
--- make up the parity of the set. The measure is the word of the bits left.
+-- make up the parity of the bits that set and input share. The measure is the word of the bits left.
 -- Assumes nothing.
 use mathlib.Core.Path.{_≡_, sym, _∙_}
 use mathlib.Core.Bool.{xor}
@@ -8,18 +8,19 @@ use borrow.Author.Needs.{needs}
 use Rattle.amplitude.proofs.XorLaws.{xor-falseˡ, xor-falseʳ}
 use Rattle.phase_sum_meaning.specs.Sets.{parity}
 use Rattle.phase_sum_meaning.proofs.SetLaws.{parity-empty}
+use Rattle.phase_sum_terms.specs.Workspace.{setOf}
 use Rattle.phase_sum_terms.proofs.Words.{parity-and, parity-byte}
 use Rattle.phase_sum_terms.proofs.sets.parity.Statement.{statement}
 use Rattle.phase_sum_terms.proofs.sets.parity.Tie as tie
 
 abbrev Inv-loop : tie.InvT-loop
-Inv-loop set input odd₀ rest₀ odd rest = xor odd (parity rest rest) ≡ parity set input
+Inv-loop input odd₀ rest₀ odd rest = xor odd (parity rest rest) ≡ parity rest₀ rest₀
 
 abbrev μ-loop : tie.MeasureT-loop
-μ-loop set input odd₀ rest₀ odd rest = rest
+μ-loop input odd₀ rest₀ odd rest = rest
 
 loop-holds : tie.Need-loop-holds Inv-loop μ-loop
-loop-holds c = rw xor-falseˡ (sym (parity-and (c .args .set) (c .args .input)))
+loop-holds c = rw xor-falseˡ
 
 cast-byte-parity : tie.Need-cast-byte-parity Inv-loop μ-loop
 cast-byte-parity c = omega arith
@@ -40,7 +41,8 @@ loop-again c =
 returns : tie.Need-returns Inv-loop μ-loop
 returns c =
     let done : c .before .loop .rest ≡ 0 = omega arith in
-    rw (done, parity-empty, xor-falseʳ) at (c .before .loop .inv)
+    let a = c .before .before .before .args in
+    (rw (done, parity-empty, xor-falseʳ) at (c .before .loop .inv)) ∙ sym (parity-and (setOf (a .s)) (a .input))
 
 pub parity-spec : {M : Type 1} → statement M
 parity-spec =

@@ -5,11 +5,11 @@ use Rattle.phase_sum_terms.proofs.Words.{shifted-one}
 use Rattle.phase_sum_terms.proofs.sets.single.Statement.{statement}
 use Rattle.phase_sum_terms.proofs.sets.single.Tie as tie
 
-shl-result : tie.Need-shl-result
-shl-result c = search needs
+shl-t3 : tie.Need-shl-t3
+shl-t3 c = search needs
 
 returns : tie.Need-returns
 returns c = shifted-one (c .args .v) (search needs)
 
 pub single-spec : {M : Type 1} → statement M
-single-spec = tie.close (tie.spec shl-result returns)
+single-spec = tie.close (tie.spec shl-t3 returns)

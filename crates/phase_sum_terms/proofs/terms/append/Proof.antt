@@ -2,15 +2,13 @@
 -- Assumes nothing.
 use borrow.Author.Needs.{needs}
 use denote.Ref.{now}
+use Rattle.phase_sum_terms.specs.Workspace.{setOf}
 use Rattle.phase_sum_terms.proofs.Places.{stored-next}
 use Rattle.phase_sum_terms.proofs.terms.append.Statement.{statement}
 use Rattle.phase_sum_terms.proofs.terms.append.Tie as tie
 
-mul-sets : tie.Need-mul-sets
-mul-sets c = search needs
-
-slice-write-sets : tie.Need-slice-write-sets
-slice-write-sets c = search needs
+store-requires : tie.Need-store-requires
+store-requires c κs = search needs
 
 slice-write-coeffs : tie.Need-slice-write-coeffs
 slice-write-coeffs c = search needs
@@ -26,15 +24,17 @@ same-length-2 c = search needs
 
 returns : tie.Need-returns
 returns c =
-    let a = c .args in
-    stored-next (a .count) (a .set) (a .coeff) (now (a .sets)) (now (a .coeffs)) (c .pre .0) (c .pre .1)
+    let at-store = c .before .before in
+    let start = at-store .before .before .before .before in
+    let a = start .args in
+    rw (at-store .store .ensures)
+    (stored-next (a .count) (setOf (a .set)) (a .coeff) (now (a .sets)) (now (a .coeffs)) (start .pre .0) (start .pre .1))
 
 pub append-spec : {M : Type 1} → statement M
 append-spec =
     tie.close
     (tie.spec
-    mul-sets
-    slice-write-sets
+    store-requires
     slice-write-coeffs
     add-result
     same-length

@@ -23,14 +23,11 @@ loop-holds c =
     let a = c .before .before .before .args in
     (omega arith, omega (arith, phaseBy-none (c .add .result) (now (a .sets)) (now (a .coeffs)) (a .input)))
 
-mul-share : tie.Need-mul-share Inv-loop μ-loop
-mul-share c = omega arith
+load-requires : tie.Need-load-requires Inv-loop μ-loop
+load-requires c κs = omega arith
 
 shared-slice-read-share : tie.Need-shared-slice-read-share Inv-loop μ-loop
 shared-slice-read-share c = omega arith
-
-shared-slice-read-share-2 : tie.Need-shared-slice-read-share-2 Inv-loop μ-loop
-shared-slice-read-share-2 c = omega arith
 
 share-requires : tie.Need-share-requires Inv-loop μ-loop
 share-requires c κs = tt
@@ -51,6 +48,7 @@ loop-again c =
     let a = at-add .before .before .before .args in
     let ss = now (a .sets) in
     let cs = now (a .coeffs) in
+    let shared = rw (c .before .before .before .load .ensures) at (c .before .share .ensures) in
     let step = phaseBy-more (at-loop .loop .i) (at-add .add .result) ss cs (a .input) (omega arith) (omega arith) in
     (omega arith, omega arith)
 
@@ -72,9 +70,8 @@ phase-at-spec =
     μ-loop
     add-requires
     loop-holds
-    mul-share
+    load-requires
     shared-slice-read-share
-    shared-slice-read-share-2
     share-requires
     add-requires-2
     add-i

@@ -6,20 +6,18 @@ use borrow.Author.Needs.{needs}
 use Rattle.phase_sum_terms.proofs.wires.wire.Statement.{statement}
 use Rattle.phase_sum_terms.proofs.wires.wire.Tie as tie
 
-mul-t4 : tie.Need-mul-t4
-mul-t4 c = search needs
+load-requires : tie.Need-load-requires
+load-requires c κs = search needs
 
 shared-slice-read-t6 : tie.Need-shared-slice-read-t6
 shared-slice-read-t6 c = search needs
 
-shared-slice-read-t8 : tie.Need-shared-slice-read-t8
-shared-slice-read-t8 c = search needs
-
 returns : tie.Need-returns
 returns c =
-    let at-start = c .before .before in
+    let at-load = c .before in
+    let at-start = at-load .before .before .before in
     let a = at-start .args in
-    zip-at (now (a .ws)) (now (a .fs)) (a .q) (at-start .pre .0) (at-start .pre .1)
+    rw (at-load .load .ensures) (zip-at (now (a .ws)) (now (a .fs)) (a .q) (at-start .pre .0) (at-start .pre .1))
 
 pub wire-spec : {M : Type 1} → statement M
-wire-spec = tie.close (tie.spec mul-t4 shared-slice-read-t6 shared-slice-read-t8 returns)
+wire-spec = tie.close (tie.spec load-requires shared-slice-read-t6 returns)
