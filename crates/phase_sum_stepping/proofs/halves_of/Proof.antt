@@ -8,7 +8,7 @@ use lib.ListN.{getD}
 use borrow.Author.Needs.{needs}
 use Rattle.phase_sum_meaning.specs.Phase.{term}
 use Rattle.phase_sum_meaning.specs.Stepping as stepping
-use Rattle.phase_sum_terms.specs.Workspace.{zipTerms, held}
+use Rattle.phase_sum_terms.specs.Workspace.{setOf, zipTerms, held}
 use Rattle.phase_sum_terms.proofs.Storing.{held-more}
 use Rattle.phase_sum_terms.proofs.Passes.{coeffs-more, oddHalves-more}
 use Rattle.phase_sum_stepping.proofs.halves_of.Statement.{statement}
@@ -16,23 +16,23 @@ use Rattle.phase_sum_stepping.proofs.halves_of.Tie as tie
 
 abbrev Inv-loop : tie.InvT-loop
 Inv-loop sets coeffs count y sum₀ l₀ i₀ sum l i =
-    (i ≤ count) × (sum ≡ stepping.coeffs y (held i sets coeffs) % 8) × (l ≡ stepping.oddHalves y (held i sets coeffs))
+    (i ≤ count) × (sum ≡ stepping.coeffs y (held i sets coeffs) % 8) × (setOf l ≡ stepping.oddHalves y (held i sets coeffs))
 
 abbrev μ-loop : tie.MeasureT-loop
 μ-loop sets coeffs count y sum₀ l₀ i₀ sum l i = count - i
 
+empty-requires : tie.Need-empty-requires Inv-loop μ-loop
+empty-requires c κs = search needs
+
 loop-holds : tie.Need-loop-holds Inv-loop μ-loop
 unfolding stepping.coeffs stepping.oddHalves zipTerms
-loop-holds c = (omega arith, refl, refl)
+loop-holds c = (omega arith, refl, c .empty .ensures)
 
-mul-coeff-with : tie.Need-mul-coeff-with Inv-loop μ-loop
-mul-coeff-with c = omega arith
+load-requires : tie.Need-load-requires Inv-loop μ-loop
+load-requires c κs = omega arith
 
 shared-slice-read-coeff-with : tie.Need-shared-slice-read-coeff-with Inv-loop μ-loop
 shared-slice-read-coeff-with c = omega arith
-
-shared-slice-read-coeff-with-2 : tie.Need-shared-slice-read-coeff-with-2 Inv-loop μ-loop
-shared-slice-read-coeff-with-2 c = omega arith
 
 coeff-with-requires : tie.Need-coeff-with-requires Inv-loop μ-loop
 coeff-with-requires c κs = search needs
@@ -40,14 +40,8 @@ coeff-with-requires c κs = search needs
 add-requires : tie.Need-add-requires Inv-loop μ-loop
 add-requires c κs = search needs
 
-mul-odd-half : tie.Need-mul-odd-half Inv-loop μ-loop
-mul-odd-half c = omega arith
-
 shared-slice-read-odd-half : tie.Need-shared-slice-read-odd-half Inv-loop μ-loop
 shared-slice-read-odd-half c = omega arith
-
-shared-slice-read-odd-half-2 : tie.Need-shared-slice-read-odd-half-2 Inv-loop μ-loop
-shared-slice-read-odd-half-2 c = omega arith
 
 odd-half-requires : tie.Need-odd-half-requires Inv-loop μ-loop
 odd-half-requires c κs = search needs
@@ -63,9 +57,10 @@ loop-less c = omega arith
 
 loop-again : tie.Need-loop-again Inv-loop μ-loop
 loop-again c =
-    let at-sum = c .before .before .before .before in
-    let at-loop = at-sum .before .before .before .before .before in
-    let a = at-loop .before .before .before .args in
+    let at-sum = c .before .before .before in
+    let at-load = at-sum .before .before .before in
+    let at-loop = at-load .before .before in
+    let a = at-loop .before .before .before .before .args in
     let ss = a .sets .now in
     let cs = a .coeffs .now in
     let i = at-loop .loop .i in
@@ -74,13 +69,13 @@ loop-again c =
     let inv = at-loop .loop .inv in
     let more = held-more i ss cs (omega arith) (omega arith) in (
       omega arith,
-      rw (more, coeffs-more (a .y) ts t) (omega (arith, at-sum .add .ensures, at-sum .before .coeff-with .ensures)),
-      rw (more, oddHalves-more (a .y) ts t, c .exclusive-or .ensures, c .before .odd-half .ensures, inv .2),
+      rw (more, coeffs-more (a .y) ts t) (omega (arith, at-sum .add .ensures, rw (at-load .load .ensures) at (at-sum .before .coeff-with .ensures))),
+      rw (more, oddHalves-more (a .y) ts t, c .exclusive-or .ensures, c .before .odd-half .ensures, at-load .load .ensures, inv .2),
     )
 
 returns : tie.Need-returns Inv-loop μ-loop
 returns c =
-    let a = c .before .before .before .before .args in
+    let a = c .before .before .before .before .before .args in
     let done : c .before .loop .i ≡ a .count = omega arith in
     let inv = c .before .loop .inv in
     (rw (inv .1, done) (omega arith), rw done at (inv .2))
@@ -91,15 +86,13 @@ halves-of-spec =
     (tie.spec
     Inv-loop
     μ-loop
+    empty-requires
     loop-holds
-    mul-coeff-with
+    load-requires
     shared-slice-read-coeff-with
-    shared-slice-read-coeff-with-2
     coeff-with-requires
     add-requires
-    mul-odd-half
     shared-slice-read-odd-half
-    shared-slice-read-odd-half-2
     odd-half-requires
     exclusive-or-requires
     add-i

@@ -3,7 +3,7 @@
 use native.Mathlib.Omega.{arith}
 use Rattle.phase_sum_meaning.specs.Parity.{of, replaceIn}
 use Rattle.phase_sum_meaning.specs.Stepping.{replace, takeOut}
-use Rattle.phase_sum_terms.specs.Workspace.{parityOf, lent, sumOf}
+use Rattle.phase_sum_terms.specs.Workspace.{setOf, parityOf, lent, sumOf}
 use Rattle.phase_sum_terms.proofs.Members.{members-without}
 use Rattle.phase_sum_terms.proofs.Changing.{became}
 use Rattle.phase_sum_terms.proofs.Passes.{rebuilt, joined-out}
@@ -55,7 +55,7 @@ returns c =
     (c .before .before .before .before .canonical .ensures)))
     (c .before .before .before .before .before .before .before .before .before .before .before .before .before .before .before .before .before .before .before .before .before .before .before .before .replace-in-wires .ensures)
     (rw
-    (c .before .before .before .before .before .before .before .without2 .ensures, c .before .before .before .before .before .before .before .before .without .ensures, members-without _ (a .z), members-without (a .sum .live) (a .y)))
+    (c .before .before .before .before .before .before .before .without2 .ensures, c .before .before .before .before .before .before .before .before .without .ensures, members-without _ (a .z), members-without (setOf (a .sum .live)) (a .y)))
 
 pub join-out-spec : {M : Type 1} → statement M
 join-out-spec =

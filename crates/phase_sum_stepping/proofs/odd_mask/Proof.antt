@@ -9,30 +9,30 @@ use borrow.Author.Needs.{needs}
 use Rattle.amplitude.specs.Bits.{bit}
 use Rattle.amplitude.proofs.BitLaws.{bit-zero}
 use Rattle.phase_sum_meaning.specs.Phase.{term, inOdd}
-use Rattle.phase_sum_terms.specs.Workspace.{zipTerms, held}
+use Rattle.phase_sum_terms.specs.Workspace.{setOf, zipTerms, held}
 use Rattle.phase_sum_terms.proofs.Storing.{held-more}
 use Rattle.phase_sum_terms.proofs.Passes.{inOdd-more}
 use Rattle.phase_sum_stepping.proofs.odd_mask.Statement.{statement}
 use Rattle.phase_sum_stepping.proofs.odd_mask.Tie as tie
 
 abbrev Inv-loop : tie.InvT-loop
-Inv-loop sets coeffs count mask₀ i₀ mask i = (i ≤ count) × ((v : ℕ) → bit v mask ≡ inOdd v (held i sets coeffs))
+Inv-loop sets coeffs count mask₀ i₀ mask i = (i ≤ count) × ((v : ℕ) → bit v (setOf mask) ≡ inOdd v (held i sets coeffs))
 
 abbrev μ-loop : tie.MeasureT-loop
 μ-loop sets coeffs count mask₀ i₀ mask i = count - i
 
+empty-requires : tie.Need-empty-requires Inv-loop μ-loop
+empty-requires c κs = search needs
+
 loop-holds : tie.Need-loop-holds Inv-loop μ-loop
 unfolding inOdd zipTerms
-loop-holds c = (omega arith, bit-zero)
+loop-holds c = (omega arith, λ v. rw (c .empty .ensures) (bit-zero v))
 
-mul-odd-set : tie.Need-mul-odd-set Inv-loop μ-loop
-mul-odd-set c = omega arith
+load-requires : tie.Need-load-requires Inv-loop μ-loop
+load-requires c κs = omega arith
 
 shared-slice-read-odd-set : tie.Need-shared-slice-read-odd-set Inv-loop μ-loop
 shared-slice-read-odd-set c = omega arith
-
-shared-slice-read-odd-set-2 : tie.Need-shared-slice-read-odd-set-2 Inv-loop μ-loop
-shared-slice-read-odd-set-2 c = omega arith
 
 odd-set-requires : tie.Need-odd-set-requires Inv-loop μ-loop
 odd-set-requires c κs = search needs
@@ -48,8 +48,9 @@ loop-less c = omega arith
 
 loop-again : tie.Need-loop-again Inv-loop μ-loop
 loop-again c =
-    let at-loop = c .before .before .before .before .before in
-    let a = at-loop .before .before .before .args in
+    let at-load = c .before .before .before in
+    let at-loop = at-load .before .before in
+    let a = at-loop .before .before .before .before .args in
     let ss = a .sets .now in
     let cs = a .coeffs .now in
     let i = at-loop .loop .i in
@@ -57,13 +58,13 @@ loop-again c =
       omega arith,
       λ v.
           rw
-          (c .union .ensures v, c .before .odd-set .ensures, at-loop .loop .inv .1 v, more)
+          (c .union .ensures v, c .before .odd-set .ensures, at-load .load .ensures, at-loop .loop .inv .1 v, more)
           (sym (inOdd-more v (held i ss cs) (term (getD ss i 0) (getD cs i 0)))),
     )
 
 returns : tie.Need-returns Inv-loop μ-loop
 returns c =
-    let done : c .before .loop .i ≡ c .before .before .before .before .args .count = omega arith in
+    let done : c .before .loop .i ≡ c .before .before .before .before .before .args .count = omega arith in
     rw done at (c .before .loop .inv .1)
 
 pub odd-mask-spec : {M : Type 1} → statement M
@@ -72,10 +73,10 @@ odd-mask-spec =
     (tie.spec
     Inv-loop
     μ-loop
+    empty-requires
     loop-holds
-    mul-odd-set
+    load-requires
     shared-slice-read-odd-set
-    shared-slice-read-odd-set-2
     odd-set-requires
     union-requires
     add-i

@@ -3,7 +3,7 @@
 use native.Mathlib.Omega.{arith}
 use Rattle.phase_sum_meaning.specs.Parity.{of, replaceIn}
 use Rattle.phase_sum_meaning.specs.Stepping.{replace}
-use Rattle.phase_sum_terms.specs.Workspace.{parityOf, lent, sumOf}
+use Rattle.phase_sum_terms.specs.Workspace.{setOf, parityOf, lent, sumOf}
 use Rattle.phase_sum_terms.proofs.Members.{members-without}
 use Rattle.phase_sum_terms.proofs.Changing.{became}
 use Rattle.phase_sum_terms.proofs.Passes.{rebuilt}
@@ -47,7 +47,7 @@ returns c =
     (rebuilt (λ u. replaceIn (a .z) p (of u)) (a .sum .phase) (stands .sets) (stands .coeffs) (sent .0) (sent .1)
     (c .before .before .before .before .canonical .ensures))
     (c .before .before .before .before .before .before .before .before .before .before .before .before .before .before .before .before .before .before .before .replace-in-wires .ensures)
-    (rw (c .before .before .before .before .before .before .before .without .ensures) (members-without (a .sum .live) (a .z)))
+    (rw (c .before .before .before .before .before .before .before .without .ensures) (members-without (setOf (a .sum .live)) (a .z)))
 
 pub replace-spec : {M : Type 1} → statement M
 replace-spec =

@@ -41,11 +41,8 @@ loop-holds c = (omega arith, λ k e. sym e, passed-none _ _ _)
 slice-read-coeff : tie.Need-slice-read-coeff Inv-loop μ-loop
 slice-read-coeff c = omega arith
 
-mul-t14 : tie.Need-mul-t14 Inv-loop μ-loop
-mul-t14 c = omega arith
-
-slice-read-t16 : tie.Need-slice-read-t16 Inv-loop μ-loop
-slice-read-t16 c = omega arith
+load-requires : tie.Need-load-requires Inv-loop μ-loop
+load-requires c κs = omega arith
 
 replace-in-requires : tie.Need-replace-in-requires Inv-loop μ-loop
 replace-in-requires c κs = search needs
@@ -53,11 +50,8 @@ replace-in-requires c κs = search needs
 with-flip-requires : tie.Need-with-flip-requires Inv-loop μ-loop
 with-flip-requires c κs = search needs
 
-mul-sets : tie.Need-mul-sets Inv-loop μ-loop
-mul-sets c = omega arith
-
-slice-write-sets : tie.Need-slice-write-sets Inv-loop μ-loop
-slice-write-sets c = omega arith
+store-requires : tie.Need-store-requires Inv-loop μ-loop
+store-requires c κs = omega arith
 
 signed-requires : tie.Need-signed-requires Inv-loop μ-loop
 signed-requires c κs = search needs
@@ -74,15 +68,23 @@ loop-less c = omega arith
 loop-again : tie.Need-loop-again Inv-loop μ-loop
 unfolding phaseTerm
 loop-again c =
-    let at-new = c .before .before in
-    let at-loop = at-new .before .before .before .before in
-    let a = at-loop .before .before .before .before .args in
+    let at-store = c .before .before .before in
+    let at-flip = at-store .before .before in
+    let at-new = at-flip .before in
+    let at-load = at-new .before in
+    let in-loop = at-load .before .before .before in
+    let at-loop = in-loop .before in
+    let new = rw (at-load .load .ensures) at (at-new .replace-in .ensures) in
+    let start = at-loop .before .before .before .before in
+    let a = start .args in
     let ss = a .sets .now in
     let cs = a .coeffs .now in
     let f = replaced (a .z) (a .p) in
     let i = at-loop .loop .i in
-    let l : i < length ss = omega arith in
-    let k : i < length cs = omega arith in
+    let less = in-loop .loop-test .taken in
+    let pre = start .pre in
+    let l : i < length ss = omega (arith, less, pre .1) in
+    let k : i < length cs = omega (arith, less, pre .2) in
     let p = at-loop .loop .inv .2 in
     let t = term (getD ss i 0) (getD cs i 0) in (
       omega arith,
@@ -92,11 +94,11 @@ loop-again c =
             rebuild-constant f m (held i ss cs) t,
             ← front-next 0 (p .sets) l,
             ← front-next 0 (p .coeffs) k,
-            ← at-new .replace-in .ensures,
+            ← new,
             ← at-loop .loop .inv .1 m e,
           )
-          (c .before .with-flip .ensures),
-      passed-more _ _ p l k (rw (c .signed .ensures, ← at-new .replace-in .ensures)),
+          (at-flip .with-flip .ensures),
+      rw (at-store .store .ensures) (passed-more _ _ p l k (rw (c .signed .ensures, ← new))),
     )
 
 same-length : tie.Need-same-length Inv-loop μ-loop
@@ -124,12 +126,10 @@ replace-unmerged-spec =
     add-requires
     loop-holds
     slice-read-coeff
-    mul-t14
-    slice-read-t16
+    load-requires
     replace-in-requires
     with-flip-requires
-    mul-sets
-    slice-write-sets
+    store-requires
     signed-requires
     slice-write-coeffs
     add-i

@@ -5,7 +5,7 @@ use native.Mathlib.Omega.{arith}
 use denote.Ref.{now}
 use Rattle.phase_sum_meaning.specs.Parity.{of}
 use Rattle.phase_sum_meaning.specs.Stepping.{outOf, takeOut}
-use Rattle.phase_sum_terms.specs.Workspace.{held, slices, sumOf}
+use Rattle.phase_sum_terms.specs.Workspace.{setOf, held, slices, sumOf}
 use Rattle.phase_sum_terms.proofs.Members.{members-without}
 use Rattle.phase_sum_terms.proofs.Changing.{became}
 use Rattle.phase_sum_terms.proofs.Passes.{sent-constant, sent-stored, rebuilt}
@@ -47,7 +47,7 @@ returns c ws fs =
     (sent-stored (outOf (a .y)) n ss cs _ (pre .1) (pre .2) (c .before .before .before .before .before .before .before .before .before .before .before .take-out-unmerged .ensures))
     (c .before .before .before .before .canonical .ensures))
     refl
-    (rw (c .before .before .before .before .before .before .before .before .without .ensures) (members-without (a .sum .live) (a .y)))
+    (rw (c .before .before .before .before .before .before .before .before .without .ensures) (members-without (setOf (a .sum .live)) (a .y)))
 
 pub take-out-spec : {M : Type 1} → statement M
 take-out-spec =

@@ -21,20 +21,14 @@ abbrev μ-loop : tie.MeasureT-loop
 loop-holds : tie.Need-loop-holds Inv-loop μ-loop
 loop-holds c = (omega arith, front-none _)
 
-mul-without : tie.Need-mul-without Inv-loop μ-loop
-mul-without c = omega arith
-
-slice-read-without : tie.Need-slice-read-without Inv-loop μ-loop
-slice-read-without c = omega arith
+load-requires : tie.Need-load-requires Inv-loop μ-loop
+load-requires c κs = omega arith
 
 without-requires : tie.Need-without-requires Inv-loop μ-loop
 without-requires c κs = search needs
 
-mul-sets : tie.Need-mul-sets Inv-loop μ-loop
-mul-sets c = omega arith
-
-slice-write-sets : tie.Need-slice-write-sets Inv-loop μ-loop
-slice-write-sets c = omega arith
+store-requires : tie.Need-store-requires Inv-loop μ-loop
+store-requires c κs = omega arith
 
 add-i : tie.Need-add-i Inv-loop μ-loop
 add-i c = omega arith
@@ -44,12 +38,15 @@ loop-less c = omega arith
 
 loop-again : tie.Need-loop-again Inv-loop μ-loop
 loop-again c =
-    let at-loop = c .before .before .before in
+    let at-store = c .before .before in
+    let at-without = at-store .before in
+    let at-load = at-without .before in
+    let at-loop = at-load .before .before .before .before in
     let a = at-loop .before .before .args in
     let l : at-loop .loop .i < length (a .sets .now) = omega arith in
     let p = at-loop .loop .inv .1 in (
       omega arith,
-      rw (c .without .ensures) (front-mapped (outOf (a .y)) 0 p l),
+      rw (at-store .store .ensures, at-without .without .ensures, at-load .load .ensures) (front-mapped (outOf (a .y)) 0 p l),
     )
 
 same-length : tie.Need-same-length Inv-loop μ-loop
@@ -68,11 +65,9 @@ take-out-unmerged-spec =
     Inv-loop
     μ-loop
     loop-holds
-    mul-without
-    slice-read-without
+    load-requires
     without-requires
-    mul-sets
-    slice-write-sets
+    store-requires
     add-i
     loop-less
     loop-again

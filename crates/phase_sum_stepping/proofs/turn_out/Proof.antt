@@ -5,7 +5,7 @@ use mathlib.Core.List.{[], _∷_}
 use native.Mathlib.Omega.{arith}
 use denote.Ref.{now}
 use Rattle.phase_sum_meaning.specs.Stepping.{takeOut, turned}
-use Rattle.phase_sum_terms.specs.Workspace.{slices, sumOf}
+use Rattle.phase_sum_terms.specs.Workspace.{setOf, slices, sumOf}
 use Rattle.phase_sum_terms.proofs.Members.{members-without}
 use Rattle.phase_sum_terms.proofs.Changing.{became}
 use Rattle.phase_sum_terms.proofs.Passes.{turned-out}
@@ -50,14 +50,14 @@ returns c ws fs =
     let pre = c .before .before .before .before .before .before .before .before .before .before .before .before .before .before .before .before .before .before .before .before .before .before .before .before .before .pre in
     let phase = a .sum .phase in
     let l = slices ws fs (now (a .sets)) (now (a .coeffs)) in
-    became (turned (a .c) (a .l) (takeOut (a .y) (sumOf (a .sum) l))) _ l _
-    (turned-out (a .y) (a .c) (a .l) phase (omega (arith, pre .1)) (omega (arith, pre .2))
+    became (turned (a .c) (setOf (a .l)) (takeOut (a .y) (sumOf (a .sum) l))) _ l _
+    (turned-out (a .y) (a .c) (setOf (a .l)) phase (omega (arith, pre .1)) (omega (arith, pre .2))
     (rw (← c .before .before .before .before .before .before .before .before .turn-constant .ensures) (c .before .before .before .before .before .before .before .add .ensures))
     (c .before .before .before .before .before .before .before .before .before .before .before .before .before .before .before .before .before .before .before .before .take-out-unmerged .ensures)
     (rw (c .before .before .before .before .before .before .before .before .before .before .before .before .before .before .before .turn-coeff .ensures) at (c .before .before .before .before .before .before .before .before .before .before .before .before .before .before .append .ensures))
     (c .before .before .before .before .canonical .ensures))
     refl
-    (rw (c .before .before .before .before .before .before .before .before .before .without .ensures) (members-without (a .sum .live) (a .y)))
+    (rw (c .before .before .before .before .before .before .before .before .before .without .ensures) (members-without (setOf (a .sum .live)) (a .y)))
 
 pub turn-out-spec : {M : Type 1} → statement M
 turn-out-spec =
