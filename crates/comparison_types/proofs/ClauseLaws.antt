@@ -24,7 +24,7 @@ use Rattle.phase_sum_meaning.specs.Building.{PathSum, initial, build}
 use Rattle.phase_sum_meaning.specs.Room.{roomFor, room, mostVariables, places}
 use Rattle.phase_sum_meaning.proofs.Wellformed.{live-build-from, live-build}
 use Rattle.phase_sum_meaning.proofs.Roominess.{room-build, tally-inverse-room}
-use Rattle.phase_sum_terms.specs.Workspace.{over, Stored, Lent, members, Sized}
+use Rattle.phase_sum_terms.specs.Workspace.{setOf, over, Stored, Lent, members, Sized}
 use Rattle.phase_sum_terms.specs.Unmerged.{gatesIn, Builds, Buildable}
 use Rattle.phase_sum_terms.specs.declared.Sum.{Sum}
 use Rattle.phase_sum_terms.proofs.Storing.{over-padded}
@@ -63,7 +63,7 @@ built-sized gs hs {r} {l} {l′} b long few flips sets coeffs =
     let n = length (l .wires) in
     let fits = room-build 0 n (miter gs hs) in
     let rooms : tally roomFor (miter gs hs) ≡ room gs hs = tally-append roomFor gs (inverseList hs) ∙ rw (tally-inverse-room hs) in
-    let left : length (members (r .live)) ≡ length (build 0 n (miter gs hs) .live) = ap (λ t. length (t .live)) (b .sum) in
+    let left : length (members (setOf (r .live))) ≡ length (build 0 n (miter gs hs) .live) = ap (λ t. length (t .live)) (b .sum) in
     record {
       few = omega (arith, few, long .wires);
       flips = omega (arith, flips, long .wires, long .flips);

@@ -15,8 +15,9 @@ use Rattle.phase_sum_meaning.specs.Sets.{_△_, single, firstIn}
 use Rattle.phase_sum_meaning.specs.Parity.{Parity, _⊕_, rest}
 use Rattle.phase_sum_meaning.specs.Building.{PathSum, input}
 use Rattle.phase_sum_meaning.specs.Stepping.{replace}
+use Rattle.phase_sum_meaning.specs.Room.{mostVariables}
 use Rattle.phase_sum_meaning.proofs.VariableLaws.{firstSuch-some}
-use Rattle.phase_sum_terms.specs.Workspace.{parityOf, Lent, members, sumOf, Became, Sized}
+use Rattle.phase_sum_terms.specs.Workspace.{setOf, parityOf, Lent, members, sumOf, Became, Sized}
 use Rattle.phase_sum_terms.specs.declared.Parity.{Parity as ParityWord}
 use Rattle.phase_sum_terms.specs.declared.Sum.{Sum}
 use Rattle.phase_sum_terms.proofs.Members.{member-held}
@@ -31,12 +32,12 @@ use Rattle.comparison_types.specs.declared.End.{End}
 -- a wire with input q added
 pub with-input :
     (w : ParityWord) (q : ℕ) →
-    _≡_ {A = Parity} (record { vars = w .set △ single q; flipped = w .flipped }) (parityOf w ⊕ input 0 q)
+    _≡_ {A = Parity} (record { vars = setOf (w .set) △ single q; flipped = w .flipped }) (parityOf w ⊕ input 0 q)
 unfolding _⊕_ input
 with-input w q = rw (bit-zero q, xor-falseʳ (w .flipped))
 
--- a variable found among those left is below 64
-pub found-below : (live s z : ℕ) → firstIn (members live) s ≡ some z → z < 64
+-- a variable found among those left is one that a pair may have
+pub found-below : (live s z : ℕ) → firstIn (members live) s ≡ some z → z < mostVariables
 found-below live s z e = member-held live z (firstSuch-some _ (members live) z e .0) .1
 
 -- where a variable left is in the mismatch p, it is replaced
@@ -67,7 +68,7 @@ pub pinned-found :
     c .pins ≤ q →
     Sized s l →
     parityOf w ≡ mismatch 0 q (sumOf s l) →
-    firstIn (members (s .live)) (w .set) ≡ some z →
+    firstIn (members (setOf (s .live))) (setOf (w .set)) ≡ some z →
     parityOf v ≡ rest z (parityOf w) →
     Became (replace z (parityOf v) (sumOf s l)) m r l l′ →
     AsLong l l′ →
@@ -89,7 +90,7 @@ pub pinned-free :
     c .pins ≤ q →
     Sized s l →
     parityOf w ≡ mismatch 0 q (sumOf s l) →
-    firstIn (members (s .live)) (w .set) ≡ none →
+    firstIn (members (setOf (s .live))) (setOf (w .set)) ≡ none →
     b ≡ isZero (parityOf w) →
     PinnedQubit q s c (record { blocked = not b; by = w; sum = s; counts = c }) l l
 pinned-free q w b s c {l} few sized is e b-is =

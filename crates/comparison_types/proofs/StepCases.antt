@@ -1,13 +1,12 @@
 -- The cases of a step and of the reduction: what the code's tests, finds and changes come to by their definitions.
 -- Assumes nothing.
 use mathlib.Core.Path.{_≡_, refl, sym, ap, _∙_}
-use Prim.Native.Nat.{ℕ, zero, suc, _+_, _-_, _%_, _^_, _≤_, _<_}
+use Prim.Native.Nat.{ℕ, zero, suc, _+_, _-_, _%_, _≤_, _<_}
 use mathlib.Core.Bool.{Bool, true, false, not, cond}
 use mathlib.Core.List.{List, [], _∷_}
 use mathlib.Core.Option.{Option, none, some}
 use native.Mathlib.Omega.{arith}
 use lib.ListN.{length}
-use lib.Count.{ones, ones-le}
 use lib.Dec.{eqb}
 use borrow.Author.Tests.{eq-eqb, ne-eqb, eqb-true, eqb-false}
 use Rattle.amplitude.specs.Bits.{bit}
@@ -30,16 +29,17 @@ use Rattle.phase_sum_meaning.specs.Stepping.{
   takeOut,
   turned,
 }
+use Rattle.phase_sum_meaning.specs.Room.{mostVariables}
 use Rattle.phase_sum_meaning.proofs.VariableLaws.{firstSuch-some}
-use Rattle.phase_sum_terms.specs.Workspace.{held, parityOf, Lent, members, foundOf, sumOf, Sized}
+use Rattle.phase_sum_terms.specs.Workspace.{setOf, held, parityOf, Lent, members, foundOf, sumOf, Sized}
 use Rattle.comparison_meaning.specs.Reduction.{addSum, addTurn, addJoin, goes, stuck, stepWith, stepAt, stops, blocks, reduceFrom}
 use Rattle.comparison_meaning.specs.Reduction as reduction
 use Rattle.comparison_types.specs.declared.Counts.{Counts}
 use Rattle.phase_sum_terms.specs.declared.Sum.{Sum}
 use Rattle.comparison_types.specs.declared.End.{End}
 use Rattle.phase_sum_terms.specs.declared.Found.{Found}
-use Rattle.comparison_types.specs.Inner.{countsOf, endOf, nextOf, CountedTo, stepTo, Stays, ReducedTo}
-use Rattle.phase_sum_terms.proofs.Members.{member-held, members-without, length-members}
+use Rattle.comparison_types.specs.Inner.{countsOf, Goes, endOf, nextOf, CountedTo, stepTo, Stays, ReducedTo}
+use Rattle.phase_sum_terms.proofs.Members.{member-held, members-without, members-few}
 use Rattle.phase_sum_terms.proofs.Running.{AsLong, long-after}
 
 -- tests that agree find the same number
@@ -56,11 +56,11 @@ pub ready-by-mask :
 ready-by-mask ys ts mask e = firstSuch-same (λ v. not (bit v mask)) (λ v. not (inOdd v ts)) (λ v. ap not (e v)) ys
 
 -- a number found among the members of a set is a variable of the set
-pub found-member : (test : ℕ → Bool) (s v : ℕ) → firstSuch test (members s) ≡ some v → (bit v s ≡ true) × (v < 64)
+pub found-member : (test : ℕ → Bool) (s v : ℕ) → firstSuch test (members s) ≡ some v → (bit v s ≡ true) × (v < mostVariables)
 found-member test s v e = member-held s v (firstSuch-some test (members s) v e .0)
 
 -- a ready variable is one of the set
-pub ready-member : (s y : ℕ) (ts : List Term) → firstReady (members s) ts ≡ some y → (bit y s ≡ true) × (y < 64)
+pub ready-member : (s y : ℕ) (ts : List Term) → firstReady (members s) ts ≡ some y → (bit y s ≡ true) × (y < mostVariables)
 ready-member s y ts e = found-member (λ v. not (inOdd v ts)) s y e
 
 -- what a ready variable that is a sum gives
@@ -199,10 +199,6 @@ pub found-left :
 unfolding takeOut
 found-left s live y l w f left e h = rw (left, ← members-without live y, ← e) (sym h)
 
--- an end that is not blocked
-abbrev unblocked : Sum → Counts → End
-unblocked s c = record { blocked = false; by = record { set = 0; flipped = false }; sum = s; counts = c }
-
 -- counts after a step: no other pins, and at most one more of each other
 record OneMore (c d : reduction.Counts) : Type 0 where
   pins : d .pins ≡ c .pins
@@ -261,9 +257,13 @@ reduce-stuck :
 unfolding reduceFrom
 reduce-stuck m y s q c e h = rw (e, reduceFrom, ← h)
 
+-- how many variables of a sum are left
+abbrev leftIn : Sum → ℕ
+leftIn s = length (members (setOf (s .live)))
+
 -- the first ready variable of a sum
 abbrev pub readyIn : Sum → Lent → Option ℕ
-readyIn s l = firstReady (members (s .live)) (held (s .phase .count) (l .sets) (l .coeffs))
+readyIn s l = firstReady (members (setOf (s .live))) (held (s .phase .count) (l .sets) (l .coeffs))
 
 -- the reduction of a sum where it stands at the end e: what of its steps is left, and how few steps it took
 pub record Going (s : Sum) (c : Counts) (l : Lent) (steps : ℕ) (e : End) (l′ : Lent) (left : ℕ) : Type 0 where
@@ -272,51 +272,48 @@ pub record Going (s : Sum) (c : Counts) (l : Lent) (steps : ℕ) (e : End) (l′
   pub sized : Sized (e .sum) l′
   pub few : CountedTo (steps - left) (e .counts)
   pub within : left ≤ steps
-  pub most : steps ≤ 64
+  pub most : steps ≤ mostVariables
   pub long : AsLong l l′
 
 -- before the first step
 pub going-starts :
     (s : Sum) (c : Counts) (e : End) {l : Lent} →
-    e ≡ unblocked s c →
-    s .live < 2 ^ 64 →
+    Goes s c e →
     CountedTo 0 c →
     Sized s l →
-    Going (e .sum) (e .counts) l (ones (s .live)) e l (ones (s .live))
-going-starts s c e start word few sized =
-    rw
-    start
-    (record {
+    Going (e .sum) (e .counts) l (leftIn s) e l (leftIn s)
+going-starts s c e start few sized =
+    record {
       later = refl;
-      free = refl;
-      sized = sized;
-      few = omega (arith, few);
+      free = start .free;
+      sized = rw (start .sum) sized;
+      few = rw (start .counts) (omega (arith, few));
       within = omega arith;
-      most = ones-le 64 (s .live) word;
+      most = members-few (setOf (s .live));
       long = record { wires = refl; flips = refl; sets = refl; coeffs = refl };
-    })
+    }
 
 -- going from the first end is going from the sum
 pub going-from :
     {s : Sum} {c : Counts} (first : End) {l : Lent} {steps : ℕ} {e : End} {l′ : Lent} {left : ℕ} →
-    first ≡ unblocked s c →
+    Goes s c first →
     Going (first .sum) (first .counts) l steps e l′ left →
     Going s c l steps e l′ left
-going-from first start g = rw start at g
+going-from first start g = rw (start .sum, start .counts) at g
 
 -- and the other way round
 pub going-back :
     {s : Sum} {c : Counts} (first : End) {l : Lent} {steps : ℕ} {e : End} {l′ : Lent} {left : ℕ} →
-    first ≡ unblocked s c →
+    Goes s c first →
     Going s c l steps e l′ left →
     Going (first .sum) (first .counts) l steps e l′ left
-going-back first start g = rw start g
+going-back first start g = rw (start .sum, start .counts) g
 
 -- few enough for one step more
 pub going-few :
     {s : Sum} {c : Counts} {l : Lent} {steps : ℕ} {e : End} {l′ : Lent} {left : ℕ} →
     Going s c l steps e l′ left →
-    CountedTo 64 (e .counts)
+    CountedTo mostVariables (e .counts)
 going-few g = omega (arith, g .few, g .most)
 
 -- the reduction of s, which stands at the end e
@@ -326,15 +323,14 @@ module _
     (e : End)
     (l l′ : Lent)
     (left : ℕ)
-    (word : s .live < 2 ^ 64)
-    (going : Going s c l (ones (s .live)) e l′ left)
+    (going : Going s c l (leftIn s) e l′ left)
   where
     -- it ends here where it stops here
     going-stops :
         reduceFrom left (sumOf (e .sum) l′) (countsOf (e .counts)) ≡ stops (sumOf (e .sum) l′) (countsOf (e .counts)) →
         ReducedTo s c e l l′
     going-stops done =
-        record { end = rw (length-members (s .live) word, going .free) (sym (going .later ∙ done)); sized = going .sized }
+        record { end = rw (going .free) (sym (going .later ∙ done)); sized = going .sized }
 
     -- no step is left
     pub going-spent : left ≤ 0 → ReducedTo s c e l l′
@@ -359,7 +355,7 @@ module _
         split = omega arith
 
         -- it goes
-        pub going-on : f .blocked ≡ false → AsLong l′ l″ → Going s c l (ones (s .live)) f l″ (left - 1)
+        pub going-on : f .blocked ≡ false → AsLong l′ l″ → Going s c l (leftIn s) f l″ (left - 1)
         going-on free long =
             let went : goes (sumOf (f .sum) l″) (countsOf (f .counts)) ≡ stepAt y (sumOf (e .sum) l′) (countsOf (e .counts)) =
             rw free at next
@@ -384,7 +380,7 @@ module _
             let now = reduce-stuck (left - 1) y _ _ _ ready stopped in
             record {
               end =
-                  rw (length-members (s .live) word, blocked, same .0, same .1, same .2)
+                  rw (blocked, same .0, same .1, same .2)
                   (sym (going .later ∙ rw (← split) at now));
               sized = sized;
             }

@@ -18,8 +18,8 @@ use Rattle.amplitude.proofs.BitLaws.{bit-zero, bit-above, bit-power, bit-power-
 use Rattle.phase_sum_meaning.specs.Sets.{firstSuch, firstIn, from, single, Among, here, there}
 use Rattle.phase_sum_meaning.specs.Parity.{Parity}
 use Rattle.phase_sum_meaning.specs.Phase.{Phase}
+use Rattle.phase_sum_meaning.specs.Room.{mostVariables}
 use Rattle.phase_sum_meaning.proofs.VariableLaws.{from-among}
-use Rattle.phase_sum_terms.proofs.Words.{shifted-one}
 use Rattle.comparison_meaning.specs.Reduction.{End, reduceEnd}
 use Rattle.comparison_meaning.specs.Verdict.{candidates, firstDiffering, different, equal, result, searched}
 use Rattle.comparison_meaning.proofs.Weight.{search-some}
@@ -51,20 +51,19 @@ first-agree t u [] (w ∷ ws) same clear = rw (clear w here) (first-agree t u []
 first-agree t u (v ∷ vs) ws same clear =
     rw (same v here, first-agree t u vs ws (λ x a. same x (there a)) clear)
 
--- the lowest variable below n of a set, where the code masks the set by a shifted 1
-pub lowest-below :
-    (n s : ℕ) → n ≤ 16 → firstSuch (λ v. bit v (s % (1 * 2 ^ n % 2 ^ 64))) (from 0 64) ≡ firstIn (from 0 n) s
+-- the lowest variable of the rest of a set below n is the set's lowest below n
+pub lowest-below : (n s : ℕ) → n ≤ 16 → firstIn (from 0 mostVariables) (s % 2 ^ n) ≡ firstIn (from 0 n) s
 lowest-below n s l =
-    let parts : 64 ≡ n + (64 - n) = omega arith in
-    rw (shifted-one n (omega arith), parts, from-split 0 n (64 - n), zero-add)
+    let parts : mostVariables ≡ n + (mostVariables - n) = omega arith in
+    rw (parts, from-split 0 n (mostVariables - n), zero-add)
     (
     first-agree
     (λ v. bit v (s % 2 ^ n))
     (λ v. bit v s)
     (from 0 n)
-    (from n (64 - n))
+    (from n (mostVariables - n))
     (λ v a. bit-rest v n s (omega (arith, from-among 0 n a)))
-    (λ v a. bit-above n v (s % 2 ^ n) (mod-lt s (pow-pos n)) (from-among n (64 - n) a .0))
+    (λ v a. bit-above n v (s % 2 ^ n) (mod-lt s (pow-pos n)) (from-among n (mostVariables - n) a .0))
     )
 
 -- what a search found that did not answer 0
@@ -110,7 +109,7 @@ length-nil [] e = refl
 length-nil (u ∷ us) e = absurd (omega arith)
 
 -- a set that is not empty has members
-pub members-left : (s : ℕ) → s < 2 ^ 64 → (s ≡ 0 → ⊥) → eqb (length (members s)) 0 ≡ false
+pub members-left : (s : ℕ) → s < 2 ^ mostVariables → (s ≡ 0 → ⊥) → eqb (length (members s)) 0 ≡ false
 members-left s l ne = ne-eqb (length (members s)) 0 (λ e. ne (members-none s l (length-nil (members s) e)))
 
 -- the empty set has none

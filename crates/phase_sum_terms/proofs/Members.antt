@@ -1,7 +1,7 @@
 -- The members of a set of no more variables than a pair may have, in rising order: which is the lowest, how many there are, and one taken out.
 -- Assumes nothing.
 use mathlib.Core.Path.{_≡_, refl, sym, _∙_, ap}
-use Prim.Native.Nat.{ℕ, zero, suc, _/_, _%_, _^_, _<_}
+use Prim.Native.Nat.{ℕ, zero, suc, _/_, _%_, _^_, _<_, _≤_}
 use native.Mathlib.Nat.{pow-succ'}
 use native.Mathlib.Omega.{arith}
 use mathlib.Core.Bool.{Bool, true, false, cond, _&&_}
@@ -20,7 +20,7 @@ use Rattle.phase_sum_meaning.specs.Stepping.{outOf}
 use Rattle.phase_sum_meaning.specs.Room.{mostVariables}
 use Rattle.phase_sum_meaning.proofs.SetLaws.{bit-△}
 use Rattle.phase_sum_meaning.proofs.TakingOut.{outOf-free}
-use Rattle.phase_sum_meaning.proofs.VariableLaws.{among-cases, among-from, from-among}
+use Rattle.phase_sum_meaning.proofs.VariableLaws.{among-cases, among-from, from-among, from-length}
 use Rattle.phase_sum_terms.specs.Workspace.{among, members}
 
 -- the first number that passes a test among those in a set
@@ -125,6 +125,20 @@ length-first (suc k) s l =
         length (cond b (0 ∷ among s (from 1 k)) (among s (from 1 k))) ≡ ones s
     go true e later = omega (arith, ones-step s)
     go false e later = omega (arith, ones-step s)
+
+-- a list has no more of a set than it has
+among-le : (s : ℕ) (vs : List ℕ) → length (among s vs) ≤ length vs
+unfolding among
+among-le s [] = omega arith
+among-le s (v ∷ vs) = go (bit v s) (among-le s vs)
+  where
+    go : (b : Bool) → length (among s vs) ≤ length vs → length (cond b (v ∷ among s vs) (among s vs)) ≤ suc (length vs)
+    go true later = omega arith
+    go false later = omega arith
+
+-- no more members than a pair may have variables
+pub members-few : (s : ℕ) → length (members s) ≤ mostVariables
+members-few s = omega (arith, among-le s (from 0 mostVariables), from-length 0 mostVariables)
 
 -- as many members as ones
 pub length-members : (s : ℕ) → s < 2 ^ mostVariables → length (members s) ≡ ones s
