@@ -108,14 +108,14 @@ length-nil : (us : List ℕ) → length us ≡ 0 → us ≡ []
 length-nil [] e = refl
 length-nil (u ∷ us) e = absurd (omega arith)
 
--- a set that is not empty has members
-pub members-left : (s : ℕ) → s < 2 ^ mostVariables → (s ≡ 0 → ⊥) → eqb (length (members s)) 0 ≡ false
-members-left s l ne = ne-eqb (length (members s)) 0 (λ e. ne (members-none s l (length-nil (members s) e)))
-
--- the empty set has none
-pub members-empty : (s : ℕ) → s ≡ 0 → eqb (length (members s)) 0 ≡ true
+-- the empty set has no members, and no other set has none
+pub members-empty : (s : ℕ) → s < 2 ^ mostVariables → eqb (length (members s)) 0 ≡ eqb s 0
 unfolding ones onesIn
-members-empty s z = rw (z, length-members 0 (omega arith))
+members-empty s l = go (eqb s 0) refl
+  where
+    go : (b : Bool) → eqb s 0 ≡ b → eqb (length (members s)) 0 ≡ b
+    go true e = rw (eqb-true s 0 e, length-members 0 (omega arith))
+    go false e = ne-eqb (length (members s)) 0 (λ h. eqb-false s 0 e (members-none s l (length-nil (members s) h)))
 
 -- reducing leaves a blocked end as it is
 pub reduce-blocked : (e : End) (q : Parity) → e .blockedBy ≡ some q → reduceEnd e ≡ e

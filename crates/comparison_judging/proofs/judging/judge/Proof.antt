@@ -1,10 +1,13 @@
 -- `comparison_judging::judging::judge` meets its contract, by its cases: blocked, variables left, none left.
 -- Assumes nothing.
+use mathlib.Core.Path.{_≡_, sym, _∙_}
 use native.Mathlib.Omega.{arith}
+use lib.ListN.{length}
+use lib.Dec.{eqb}
 use mathlib.Core.List.{[]}
-use Rattle.phase_sum_terms.specs.Workspace.{slices}
+use Rattle.phase_sum_terms.specs.Workspace.{setOf, slices, members}
 use Rattle.comparison_meaning.specs.Verdict.{judge, searched}
-use Rattle.comparison_types.proofs.VerdictLaws.{members-left, members-empty}
+use Rattle.comparison_types.proofs.VerdictLaws.{members-empty}
 use borrow.Author.Needs.{needs}
 use Rattle.comparison_judging.proofs.judging.judge.Statement.{statement}
 use Rattle.comparison_judging.proofs.judging.judge.Tie as tie
@@ -20,22 +23,37 @@ unfolding judge
 returns c ws fs =
     rw (c .before .before .if1 .taken, ← c .before .blocked-input .ensures) (c .outcome .ensures (slices ws fs [] []) (c .before .before .before .before .before .before .before .before .args .end .by))
 
-outcome-requires-2 : tie.Need-outcome-requires-2
-outcome-requires-2 c κs = search needs
+is-empty-requires : tie.Need-is-empty-requires
+is-empty-requires c κs = search needs
 
-returns-2 : tie.Need-returns-2
-unfolding judge
-returns-2 c ws fs =
-    rw (c .before .before .before .if1 .left, members-left (c .before .before .before .before .before .before .before .before .before .args .end .sum .live) (omega arith) (c .before .if2 .taken))
-    (c .outcome2 .ensures (slices ws fs [] []) (c .before .before .before .before .before .before .before .before .before .args .end .by))
+-- whether variables are left is whether the set of those left is empty
+none-left :
+    (c : tie.After-is-empty) →
+    eqb (length (members (setOf (c .before .before .before .before .before .before .before .args .end .sum .live)))) 0
+    ≡ c .is-empty .result
+none-left c =
+    members-empty (setOf (c .before .before .before .before .before .before .before .args .end .sum .live)) (omega arith)
+    ∙ sym (c .is-empty .ensures)
 
 searched-requires : tie.Need-searched-requires
 searched-requires c κs = search needs
 
-returns-3 : tie.Need-returns-3
+returns-2 : tie.Need-returns-2
 unfolding judge searched
+returns-2 c ws fs =
+    let at-empty = c .before .before in
+    rw (at-empty .before .if1 .left, none-left at-empty, c .before .if2 .taken)
+    (c .searched .ensures ws fs (at-empty .before .before .before .before .before .before .before .args .end .by))
+
+outcome-requires-2 : tie.Need-outcome-requires-2
+outcome-requires-2 c κs = search needs
+
+returns-3 : tie.Need-returns-3
+unfolding judge
 returns-3 c ws fs =
-    rw (c .before .before .before .if1 .left, members-empty (c .before .before .before .before .before .before .before .before .before .args .end .sum .live) (c .before .if2 .left)) (c .searched .ensures ws fs (c .before .before .before .before .before .before .before .before .before .args .end .by))
+    let at-empty = c .before .before in
+    rw (at-empty .before .if1 .left, none-left at-empty, c .before .if2 .left)
+    (c .outcome2 .ensures (slices ws fs [] []) (at-empty .before .before .before .before .before .before .before .args .end .by))
 
 pub judge-spec : {M : Type 1} → statement M
 judge-spec =
@@ -44,7 +62,8 @@ judge-spec =
     blocked-input-requires
     outcome-requires
     returns
-    outcome-requires-2
-    returns-2
+    is-empty-requires
     searched-requires
+    returns-2
+    outcome-requires-2
     returns-3)

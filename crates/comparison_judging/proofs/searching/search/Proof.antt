@@ -1,7 +1,9 @@
 -- `comparison_judging::searching::search` meets its contract: the answer is that of the first weight that has one; where no coefficient is odd and
 -- no input of weight 1 or 2 differs, none of weight 3 does.
 -- Assumes nothing.
+use mathlib.Core.Path.{sym, _∙_}
 use native.Mathlib.Omega.{arith}
+use borrow.Author.Tests.{eqb-true}
 use borrow.Author.Needs.{needs}
 use Rattle.comparison_types.proofs.SearchLaws.{first-of-one, first-of-two, first-of-three, first-of-none}
 use Rattle.comparison_judging.proofs.searching.search.Statement.{statement}
@@ -23,19 +25,24 @@ returns-2 c =
 odd-mask-requires : tie.Need-odd-mask-requires
 odd-mask-requires c κs = search needs
 
+is-empty-requires : tie.Need-is-empty-requires
+is-empty-requires c κs = search needs
+
 returns-3 : tie.Need-returns-3
 returns-3 c =
-    first-of-none _ _ _ (c .before .before .before .before .before .weight-one .ensures) (omega arith) _
-    (c .before .before .before .weight-two .ensures) (omega arith) _
-    (c .if3 .taken) (c .before .odd-mask .ensures)
+    let at-empty = c .before in
+    let at-mask = at-empty .before in
+    first-of-none _ _ _ (at-mask .before .before .before .before .weight-one .ensures) (omega arith) _
+    (at-mask .before .before .weight-two .ensures) (omega arith) _
+    (eqb-true _ 0 (sym (at-empty .is-empty .ensures) ∙ c .if3 .taken)) (at-mask .odd-mask .ensures)
 
 weight-three-requires : tie.Need-weight-three-requires
 weight-three-requires c κs = search needs
 
 returns-4 : tie.Need-returns-4
 returns-4 c =
-    first-of-three _ _ _ (c .before .before .before .before .before .before .weight-one .ensures) (omega arith) _
-    (c .before .before .before .before .weight-two .ensures) (omega arith) _
+    first-of-three _ _ _ (c .before .before .before .before .before .before .before .weight-one .ensures) (omega arith) _
+    (c .before .before .before .before .before .weight-two .ensures) (omega arith) _
     (c .weight-three .ensures)
 
 pub search-spec : {M : Type 1} → statement M
@@ -47,6 +54,7 @@ search-spec =
     weight-two-requires
     returns-2
     odd-mask-requires
+    is-empty-requires
     returns-3
     weight-three-requires
     returns-4)

@@ -21,8 +21,8 @@ abbrev μ-loop : tie.MeasureT-loop
 loop-holds : tie.Need-loop-holds Inv-loop μ-loop
 loop-holds c = (omega arith, beside-start _ 0 0)
 
-single-requires : tie.Need-single-requires Inv-loop μ-loop
-single-requires c κs = search needs
+only-requires : tie.Need-only-requires Inv-loop μ-loop
+only-requires c κs = search needs
 
 differs-requires : tie.Need-differs-requires Inv-loop μ-loop
 differs-requires c κs = search needs
@@ -56,7 +56,7 @@ weight-one-spec =
     Inv-loop
     μ-loop
     loop-holds
-    single-requires
+    only-requires
     differs-requires
     returns
     add-i

@@ -37,15 +37,15 @@ abbrev μ-search : tie.MeasureT-search
 search-holds : tie.Need-search-holds Inv-loop2 μ-loop2 Inv-loop μ-loop Inv-search μ-search
 search-holds c = (refl, omega arith, beside-start _ 0 2)
 
-single-requires : tie.Need-single-requires Inv-loop2 μ-loop2 Inv-loop μ-loop Inv-search μ-search
-single-requires c κs = search needs
+only-requires : tie.Need-only-requires Inv-loop2 μ-loop2 Inv-loop μ-loop Inv-search μ-search
+only-requires c κs = search needs
 
 loop-holds : tie.Need-loop-holds Inv-loop2 μ-loop2 Inv-loop μ-loop Inv-search μ-search
 loop-holds c = (c .before .before .search .inv .0, omega arith, beside-start _ _ 1)
 
-single-requires-2 :
-    tie.Need-single-requires-2 Inv-loop2 μ-loop2 Inv-loop μ-loop Inv-search μ-search
-single-requires-2 c κs = search needs
+only-requires-2 :
+    tie.Need-only-requires-2 Inv-loop2 μ-loop2 Inv-loop μ-loop Inv-search μ-search
+only-requires-2 c κs = search needs
 
 add-pair : tie.Need-add-pair Inv-loop2 μ-loop2 Inv-loop μ-loop Inv-search μ-search
 add-pair c =
@@ -58,9 +58,9 @@ add-pair c =
 loop2-holds : tie.Need-loop2-holds Inv-loop2 μ-loop2 Inv-loop μ-loop Inv-search μ-search
 loop2-holds c = (c .before .before .loop .inv .0, omega arith, beside-start _ _ 0)
 
-single-requires-3 :
-    tie.Need-single-requires-3 Inv-loop2 μ-loop2 Inv-loop μ-loop Inv-search μ-search
-single-requires-3 c κs = search needs
+only-requires-3 :
+    tie.Need-only-requires-3 Inv-loop2 μ-loop2 Inv-loop μ-loop Inv-search μ-search
+only-requires-3 c κs = search needs
 
 add-input : tie.Need-add-input Inv-loop2 μ-loop2 Inv-loop μ-loop Inv-search μ-search
 add-input c =
@@ -138,12 +138,12 @@ weight-three-spec =
     Inv-search
     μ-search
     search-holds
-    single-requires
+    only-requires
     loop-holds
-    single-requires-2
+    only-requires-2
     add-pair
     loop2-holds
-    single-requires-3
+    only-requires-3
     add-input
     differs-requires
     add-k

@@ -27,14 +27,14 @@ abbrev μ-loop : tie.MeasureT-loop
 loop-holds : tie.Need-loop-holds Inv-loop2 μ-loop2 Inv-loop μ-loop
 loop-holds c = (omega arith, beside-start _ 0 1)
 
-single-requires : tie.Need-single-requires Inv-loop2 μ-loop2 Inv-loop μ-loop
-single-requires c κs = search needs
+only-requires : tie.Need-only-requires Inv-loop2 μ-loop2 Inv-loop μ-loop
+only-requires c κs = search needs
 
 loop2-holds : tie.Need-loop2-holds Inv-loop2 μ-loop2 Inv-loop μ-loop
 loop2-holds c = (omega arith, beside-start _ _ 0)
 
-single-requires-2 : tie.Need-single-requires-2 Inv-loop2 μ-loop2 Inv-loop μ-loop
-single-requires-2 c κs = search needs
+only-requires-2 : tie.Need-only-requires-2 Inv-loop2 μ-loop2 Inv-loop μ-loop
+only-requires-2 c κs = search needs
 
 add-input : tie.Need-add-input Inv-loop2 μ-loop2 Inv-loop μ-loop
 add-input c =
@@ -89,9 +89,9 @@ weight-two-spec =
     Inv-loop
     μ-loop
     loop-holds
-    single-requires
+    only-requires
     loop2-holds
-    single-requires-2
+    only-requires-2
     add-input
     differs-requires
     returns
