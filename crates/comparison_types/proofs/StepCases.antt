@@ -277,37 +277,40 @@ pub record Going (s : Sum) (c : Counts) (l : Lent) (steps : ℕ) (e : End) (l′
 
 -- before the first step
 pub going-starts :
-    (s : Sum) (c : Counts) (e : End) {l : Lent} →
+    (s : Sum) (c : Counts) (e : End) {l : Lent} {steps : ℕ} →
     Goes s c e →
+    steps ≡ leftIn s →
     CountedTo 0 c →
     Sized s l →
-    Going (e .sum) (e .counts) l (leftIn s) e l (leftIn s)
-going-starts s c e start few sized =
+    Going (e .sum) (e .counts) l steps e l steps
+going-starts s c e start all few sized =
     record {
       later = refl;
       free = start .free;
       sized = rw (start .sum) sized;
       few = rw (start .counts) (omega (arith, few));
       within = omega arith;
-      most = members-few (setOf (s .live));
+      most = rw all (members-few (setOf (s .live)));
       long = record { wires = refl; flips = refl; sets = refl; coeffs = refl };
     }
 
--- going from the first end is going from the sum
+-- going from the first end is going from the sum, by as many steps as variables are left
 pub going-from :
     {s : Sum} {c : Counts} (first : End) {l : Lent} {steps : ℕ} {e : End} {l′ : Lent} {left : ℕ} →
     Goes s c first →
+    steps ≡ leftIn s →
     Going (first .sum) (first .counts) l steps e l′ left →
-    Going s c l steps e l′ left
-going-from first start g = rw (start .sum, start .counts) at g
+    Going s c l (leftIn s) e l′ left
+going-from first start all g = rw (start .sum, start .counts, all) at g
 
 -- and the other way round
 pub going-back :
     {s : Sum} {c : Counts} (first : End) {l : Lent} {steps : ℕ} {e : End} {l′ : Lent} {left : ℕ} →
     Goes s c first →
-    Going s c l steps e l′ left →
+    steps ≡ leftIn s →
+    Going s c l (leftIn s) e l′ left →
     Going (first .sum) (first .counts) l steps e l′ left
-going-back first start g = rw (start .sum, start .counts) g
+going-back first start all g = rw (start .sum, start .counts, all) g
 
 -- few enough for one step more
 pub going-few :

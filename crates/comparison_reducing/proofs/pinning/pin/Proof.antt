@@ -4,6 +4,7 @@ use mathlib.Core.Path.{_≡_, refl, _∙_}
 use Prim.Native.Nat.{_-_, _<_}
 use native.Mathlib.Omega.{arith}
 use lib.ListN.{length}
+use borrow.Author.Needs.{needs}
 use denote.Ref.{now}
 use Rattle.phase_sum_terms.specs.Workspace.{slices, lent}
 use Rattle.comparison_types.proofs.PinLaws.{PinnedTo, none-pinned, more-pinned, pinned-blocked, all-pinned}
@@ -17,8 +18,11 @@ Inv-loop ws₀ fs₀ sets₀ coeffs₀ end₀ q₀ ws fs sets coeffs end q =
 abbrev μ-loop : tie.MeasureT-loop
 μ-loop ws₀ fs₀ sets₀ coeffs₀ end₀ q₀ ws fs sets coeffs end q = length ws₀ - q
 
+empty-requires : tie.Need-empty-requires Inv-loop μ-loop
+empty-requires c κs = search needs
+
 loop-holds : tie.Need-loop-holds Inv-loop μ-loop
-loop-holds c = none-pinned (c .before .before .before .before .args .sum) _ (c .before .before .before .before .pre)
+loop-holds c = none-pinned (c .before .before .before .before .before .args .sum) _ (c .before .before .before .before .before .pre)
 
 pin-qubit-requires : tie.Need-pin-qubit-requires Inv-loop μ-loop
 pin-qubit-requires c κs = let to = c .before .before .before .before .before .before .before .loop .inv in (c .before .before .before .before .before .before .loop-test .taken, to .pins, to .sized)
@@ -38,8 +42,8 @@ same-length-4 c = c .before .before .before .before .before .before .before .bef
 returns : tie.Need-returns Inv-loop μ-loop
 returns c =
     let loop = c .before .before .before .before .before .before .before .before .before .before .before .before .before .before .before .before .before .loop in
-    let here : loop .q < length (now (c .before .before .before .before .before .before .before .before .before .before .before .before .before .before .before .before .before .before .before .before .before .before .args .ws)) = omega (arith, c .before .before .before .before .before .before .before .before .before .before .before .before .before .before .before .before .loop-test .taken, loop .inv .long .wires) in
-    pinned-blocked (loop .q) (c .before .before .before .before .before .before .before .before .before .before .before .before .before .before .before .before .before .before .before .before .before .before .args .sum) (loop .end) (c .before .before .before .before .before .before .before .before .before .pin-qubit .result) here (loop .inv) (c .before .before .before .before .before .before .before .before .before .pin-qubit .ensures) (c .if1 .taken)
+    let here : loop .q < length (now (c .before .before .before .before .before .before .before .before .before .before .before .before .before .before .before .before .before .before .before .before .before .before .before .args .ws)) = omega (arith, c .before .before .before .before .before .before .before .before .before .before .before .before .before .before .before .before .loop-test .taken, loop .inv .long .wires) in
+    pinned-blocked (loop .q) (c .before .before .before .before .before .before .before .before .before .before .before .before .before .before .before .before .before .before .before .before .before .before .before .args .sum) (loop .end) (c .before .before .before .before .before .before .before .before .before .pin-qubit .result) here (loop .inv) (c .before .before .before .before .before .before .before .before .before .pin-qubit .ensures) (c .if1 .taken)
 
 add-q : tie.Need-add-q Inv-loop μ-loop
 add-q c = omega (arith, c .before .before .before .before .before .before .before .before .before .before .before .before .before .before .before .before .loop-test .taken)
@@ -51,8 +55,8 @@ loop-again : tie.Need-loop-again Inv-loop μ-loop
 loop-again c =
     let loop = c .before .before .before .before .before .before .before .before .before .before .before .before .before .before .before .before .before .loop in
     let kept = c .before .before .before .before .before .before .before .before .before .pin-qubit .kept .1 .1 .1 in
-    let here : loop .q < length (now (c .before .before .before .before .before .before .before .before .before .before .before .before .before .before .before .before .before .before .before .before .before .before .args .ws)) = omega (arith, c .before .before .before .before .before .before .before .before .before .before .before .before .before .before .before .before .loop-test .taken, loop .inv .long .wires) in
-    more-pinned (loop .q) (c .before .before .before .before .before .before .before .before .before .before .before .before .before .before .before .before .before .before .before .before .before .before .args .sum) (loop .end) (c .before .before .before .before .before .before .before .before .before .pin-qubit .result) here (loop .inv) (c .before .before .before .before .before .before .before .before .before .pin-qubit .ensures) (c .if1 .left)
+    let here : loop .q < length (now (c .before .before .before .before .before .before .before .before .before .before .before .before .before .before .before .before .before .before .before .before .before .before .before .args .ws)) = omega (arith, c .before .before .before .before .before .before .before .before .before .before .before .before .before .before .before .before .loop-test .taken, loop .inv .long .wires) in
+    more-pinned (loop .q) (c .before .before .before .before .before .before .before .before .before .before .before .before .before .before .before .before .before .before .before .before .before .before .before .args .sum) (loop .end) (c .before .before .before .before .before .before .before .before .before .pin-qubit .result) here (loop .inv) (c .before .before .before .before .before .before .before .before .before .pin-qubit .ensures) (c .if1 .left)
     (record { wires = kept .0; flips = kept .1 .0; sets = kept .1 .1 .0; coeffs = kept .1 .1 .1 .0 })
 
 same-length-5 : tie.Need-same-length-5 Inv-loop μ-loop
@@ -70,7 +74,7 @@ same-length-8 c = c .before .loop .inv .long .coeffs
 returns-2 : tie.Need-returns-2 Inv-loop μ-loop
 returns-2 c =
     let loop = c .before .loop in
-    all-pinned (loop .q) (c .before .before .before .before .before .before .args .sum) _ (omega (arith, c .loop-test .left, loop .inv .long .wires)) (loop .inv)
+    all-pinned (loop .q) (c .before .before .before .before .before .before .before .args .sum) _ (omega (arith, c .loop-test .left, loop .inv .long .wires)) (loop .inv)
 
 pub pin-spec : {M : Type 1} → statement M
 pin-spec =
@@ -78,6 +82,7 @@ pin-spec =
     (tie.spec
     Inv-loop
     μ-loop
+    empty-requires
     loop-holds
     pin-qubit-requires
     same-length

@@ -1,10 +1,9 @@
 -- `comparison_reducing::reducing::reduce` meets its contract. The loop's invariant: what the definition gives from the start it gives from here with the steps that are left. The measure is how many are left.
 -- Assumes nothing.
 use mathlib.Core.Path.{_≡_, refl, sym, ap, _∙_}
-use Prim.Native.Nat.{_^_, _<_}
 use native.Mathlib.Omega.{arith}
 use borrow.Author.Needs.{needs}
-use Rattle.phase_sum_terms.specs.Workspace.{lent, slices, foundOf}
+use Rattle.phase_sum_terms.specs.Workspace.{setOf, lent, slices, foundOf}
 use Rattle.phase_sum_terms.proofs.Changing.{sized-stands}
 use Rattle.comparison_types.proofs.StepCases.{ready-member, Going, going-starts, going-from, going-back, going-few, going-spent, going-idle, going-on, going-blocked}
 use Rattle.comparison_reducing.proofs.reducing.reduce.Statement.{statement}
@@ -17,17 +16,16 @@ Inv-loop ws₀ fs₀ sets₀ coeffs₀ end₀ left₀ ws fs sets coeffs end left
 abbrev μ-loop : tie.MeasureT-loop
 μ-loop ws₀ fs₀ sets₀ coeffs₀ end₀ left₀ ws fs sets coeffs end left = left
 
--- the variables left are the bits of a word
-word : (c : tie.Start Inv-loop μ-loop) → c .args .sum .live < 2 ^ 64
-word c = omega arith
-
 goes-requires : tie.Need-goes-requires Inv-loop μ-loop
 goes-requires c κs = search needs
+
+count-requires : tie.Need-count-requires Inv-loop μ-loop
+count-requires c κs = search needs
 
 loop-holds : tie.Need-loop-holds Inv-loop μ-loop
 loop-holds c =
     let a = c .before .before .before .before .before .before .args in
-    going-starts (a .sum) (a .counts) (c .before .goes .result) (c .before .goes .ensures) (word (c .before .before .before .before .before .before)) (c .before .before .before .before .before .before .pre .0) (c .before .before .before .before .before .before .pre .1)
+    going-starts (a .sum) (a .counts) (c .before .goes .result) (c .before .goes .ensures) (c .count .ensures) (c .before .before .before .before .before .before .pre .0) (c .before .before .before .before .before .before .pre .1)
 
 ready-requires : tie.Need-ready-requires Inv-loop μ-loop
 ready-requires c κs = let stands = sized-stands (c .before .before .before .before .loop .inv .sized) in (stands .sets, stands .coeffs)
@@ -56,13 +54,13 @@ returns c =
     let p = c .before .before .before .before .before .before .before .loop in
     let l = lent (a .ws) (a .fs) (a .sets) (a .coeffs) in
     let l′ = slices (p .ws) (p .fs) (p .sets) (p .coeffs) in
-    going-idle (a .sum) (a .counts) (p .end) l l′ (p .left) (word (c .before .before .before .before .before .before .before .before .before .before .before .before .before .before)) (going-from (c .before .before .before .before .before .before .before .before .before .goes .result) (c .before .before .before .before .before .before .before .before .before .goes .ensures) (p .inv))
+    going-idle (a .sum) (a .counts) (p .end) l l′ (p .left) (going-from (c .before .before .before .before .before .before .before .before .before .goes .result) (c .before .before .before .before .before .before .before .before .before .goes .ensures) (c .before .before .before .before .before .before .before .before .count .ensures) (p .inv))
     (sym (c .before .before .ready .ensures) ∙ ap foundOf (c .enum-told .given .1))
 
 step-requires : tie.Need-step-requires Inv-loop μ-loop
 step-requires c κs =
     let p = c .before .before .before .before .before .before .before .before .before .before .before .before .before .loop in
-    let member = ready-member (p .end .sum .live) _ _ (sym (c .before .before .before .before .before .before .before .before .ready .ensures) ∙ ap foundOf (c .before .before .before .before .before .before .y .given .1)) in
+    let member = ready-member (setOf (p .end .sum .live)) _ _ (sym (c .before .before .before .before .before .before .before .before .ready .ensures) ∙ ap foundOf (c .before .before .before .before .before .before .y .given .1)) in
     (member .0, member .1, going-few (p .inv), p .inv .sized)
 
 same-length-5 : tie.Need-same-length-5 Inv-loop μ-loop
@@ -84,7 +82,7 @@ returns-2 c =
     let l = lent (a .ws) (a .fs) (a .sets) (a .coeffs) in
     let l′ = slices (p .ws) (p .fs) (p .sets) (p .coeffs) in
     let to = c .before .before .before .before .before .before .before .before .before .step .ensures in
-    going-blocked (a .sum) (a .counts) (p .end) l l′ (p .left) (word (c .before .before .before .before .before .before .before .before .before .before .before .before .before .before .before .before .before .before .before .before .before .before .before .before .before .before .before .before .before .before)) (going-from (c .before .before .before .before .before .before .before .before .before .before .before .before .before .before .before .before .before .before .before .before .before .before .before .before .before .goes .result) (c .before .before .before .before .before .before .before .before .before .before .before .before .before .before .before .before .before .before .before .before .before .before .before .before .before .goes .ensures) (p .inv))
+    going-blocked (a .sum) (a .counts) (p .end) l l′ (p .left) (going-from (c .before .before .before .before .before .before .before .before .before .before .before .before .before .before .before .before .before .before .before .before .before .before .before .before .before .goes .result) (c .before .before .before .before .before .before .before .before .before .before .before .before .before .before .before .before .before .before .before .before .before .before .before .before .before .goes .ensures) (c .before .before .before .before .before .before .before .before .before .before .before .before .before .before .before .before .before .before .before .before .before .before .before .before .count .ensures) (p .inv))
     _ (c .before .before .before .before .before .before .before .before .before .step .result) _ (c .before .before .before .before .before .before .before .before .before .before .before .before .before .before .before .before .before .before .before .before .before .before .loop-test .taken) (sym (c .before .before .before .before .before .before .before .before .before .before .before .before .before .before .before .before .before .before .ready .ensures) ∙ ap foundOf (c .before .before .before .before .before .before .before .before .before .before .before .before .before .before .before .before .y .given .1)) (to .next) (to .sized)
     (c .if1 .taken) (to .stays)
 
@@ -102,8 +100,8 @@ loop-again c =
     let l′ = slices (p .ws) (p .fs) (p .sets) (p .coeffs) in
     let to = c .before .before .before .before .before .before .before .before .before .step .ensures in
     let kept = c .before .before .before .before .before .before .before .before .before .step .kept .1 .1 .1 in
-    going-back (c .before .before .before .before .before .before .before .before .before .before .before .before .before .before .before .before .before .before .before .before .before .before .before .before .before .goes .result) (c .before .before .before .before .before .before .before .before .before .before .before .before .before .before .before .before .before .before .before .before .before .before .before .before .before .goes .ensures)
-    (going-on (a .sum) (a .counts) (p .end) l l′ (p .left) (word (c .before .before .before .before .before .before .before .before .before .before .before .before .before .before .before .before .before .before .before .before .before .before .before .before .before .before .before .before .before .before)) (going-from (c .before .before .before .before .before .before .before .before .before .before .before .before .before .before .before .before .before .before .before .before .before .before .before .before .before .goes .result) (c .before .before .before .before .before .before .before .before .before .before .before .before .before .before .before .before .before .before .before .before .before .before .before .before .before .goes .ensures) (p .inv))
+    going-back (c .before .before .before .before .before .before .before .before .before .before .before .before .before .before .before .before .before .before .before .before .before .before .before .before .before .goes .result) (c .before .before .before .before .before .before .before .before .before .before .before .before .before .before .before .before .before .before .before .before .before .before .before .before .before .goes .ensures) (c .before .before .before .before .before .before .before .before .before .before .before .before .before .before .before .before .before .before .before .before .before .before .before .before .count .ensures)
+    (going-on (a .sum) (a .counts) (p .end) l l′ (p .left) (going-from (c .before .before .before .before .before .before .before .before .before .before .before .before .before .before .before .before .before .before .before .before .before .before .before .before .before .goes .result) (c .before .before .before .before .before .before .before .before .before .before .before .before .before .before .before .before .before .before .before .before .before .before .before .before .before .goes .ensures) (c .before .before .before .before .before .before .before .before .before .before .before .before .before .before .before .before .before .before .before .before .before .before .before .before .count .ensures) (p .inv))
     _ (c .before .before .before .before .before .before .before .before .before .step .result) _ (c .before .before .before .before .before .before .before .before .before .before .before .before .before .before .before .before .before .before .before .before .before .before .loop-test .taken) (sym (c .before .before .before .before .before .before .before .before .before .before .before .before .before .before .before .before .before .before .ready .ensures) ∙ ap foundOf (c .before .before .before .before .before .before .before .before .before .before .before .before .before .before .before .before .y .given .1)) (to .next) (to .sized)
     (c .if1 .left) (record { wires = kept .0; flips = kept .1 .0; sets = kept .1 .1 .0; coeffs = kept .1 .1 .1 .0 }))
 
@@ -125,7 +123,7 @@ returns-3 c =
     let p = c .before .loop in
     let l = lent (a .ws) (a .fs) (a .sets) (a .coeffs) in
     let l′ = slices (p .ws) (p .fs) (p .sets) (p .coeffs) in
-    going-spent (a .sum) (a .counts) (p .end) l l′ (p .left) (word (c .before .before .before .before .before .before .before .before)) (going-from (c .before .before .before .goes .result) (c .before .before .before .goes .ensures) (p .inv)) (c .loop-test .left)
+    going-spent (a .sum) (a .counts) (p .end) l l′ (p .left) (going-from (c .before .before .before .goes .result) (c .before .before .before .goes .ensures) (c .before .before .count .ensures) (p .inv)) (c .loop-test .left)
 
 pub reduce-spec : {M : Type 1} → statement M
 reduce-spec =
@@ -134,6 +132,7 @@ reduce-spec =
     Inv-loop
     μ-loop
     goes-requires
+    count-requires
     loop-holds
     ready-requires
     enum-known-y

@@ -3,7 +3,7 @@
 use mathlib.Core.Path.{_≡_, refl, sym, ap, _∙_}
 use mathlib.Core.Bool.{true, false, true≢false}
 use native.Mathlib.Omega.{arith}
-use Rattle.phase_sum_terms.specs.Workspace.{lent, sumOf, foundOf}
+use Rattle.phase_sum_terms.specs.Workspace.{setOf, lent, sumOf, foundOf}
 use Rattle.phase_sum_terms.proofs.Changing.{sized-stands}
 use Rattle.comparison_types.specs.Inner.{countsOf}
 use Rattle.comparison_types.proofs.PinLaws.{found-below}
@@ -26,7 +26,7 @@ enum-known-z c = search needs
 
 step-at-requires : tie.Need-step-at-requires
 step-at-requires c κs =
-    let pre = c .before .before .before .before .before .before .before .before .before .before .before .before .before .before .before .before .before .pre in
+    let pre = c .before .before .before .before .before .before .before .before .before .before .before .before .before .before .before .before .before .before .pre in
     (pre .0, pre .1, found-below _ _ _ (sym (c .before .before .before .before .before .before .before .lowest-in .ensures) ∙ ap foundOf (c .before .before .before .before .before .z .given .1)), pre .2, pre .3)
 
 enum-told : tie.Need-enum-told
@@ -46,22 +46,22 @@ same-length-2 c = search needs
 
 returns : tie.Need-returns
 returns c =
-    let a = c .before .before .before .before .before .before .before .before .before .before .before .before .before .before .before .args in
-    let halves = c .before .before .before .before .before .before .before .halves-of in
+    let a = c .before .before .before .before .before .before .before .before .before .before .before .before .before .before .before .before .args in
+    let halves = c .before .before .before .before .before .before .before .before .halves-of in
     let s = sumOf (a .sum) (lent (a .ws) (a .fs) (a .sets) (a .coeffs)) in
-    let found = found-left s (a .sum .live) (a .y) (halves .result .l) _ (c .before .before .before .before .before .lowest-in .result) refl
+    let found = found-left s (setOf (a .sum .live)) (a .y) (setOf (halves .result .l)) _ (c .before .before .before .before .before .lowest-in .result) refl
     (c .before .before .before .before .before .before .without .ensures) (c .before .before .before .before .before .lowest-in .ensures) in
     let none-left = found ∙ ap foundOf (c .before .before .before .enum-told .given .1) in
     let kind = c .before .before .constrains .ensures .0 (c .before .if1 .taken) in
-    let stuck = step-stuck (a .y) (halves .result .c) (halves .result .l) s (countsOf (a .counts)) kind none-left in
+    let stuck = step-stuck (a .y) (halves .result .c) (setOf (halves .result .l)) s (countsOf (a .counts)) kind none-left in
     record {
       next = rw (c .constraint-of .ensures, ← halves .ensures .0, ← halves .ensures .1) (sym stuck);
       stays = λ b. (refl, refl, refl);
-      sized = c .before .before .before .before .before .before .before .before .before .before .before .before .before .before .before .pre .3;
+      sized = c .before .before .before .before .before .before .before .before .before .before .before .before .before .before .before .before .pre .3;
     }
 
 step-at-requires-2 : tie.Need-step-at-requires-2
-step-at-requires-2 c κs = let pre = c .before .before .before .before .before .before .before .before .before .before .before .before .before .before .before .before .before .before .pre in (pre .0, pre .1, pre .1, pre .2, pre .3)
+step-at-requires-2 c κs = let pre = c .before .before .before .before .before .before .before .before .before .before .before .before .before .before .before .before .before .before .before .pre in (pre .0, pre .1, pre .1, pre .2, pre .3)
 
 same-length-3 : tie.Need-same-length-3
 same-length-3 c = search needs
@@ -77,13 +77,13 @@ same-length-6 c = search needs
 
 returns-2 : tie.Need-returns-2
 returns-2 c =
-    let a = c .before .before .before .before .before .before .before .before .before .before .before .before .before .before .before .before .before .before .before .before .before .before .before .before .before .before .args in
-    let halves = c .before .before .before .before .before .before .before .before .before .before .before .before .before .before .before .before .before .before .halves-of in
+    let a = c .before .before .before .before .before .before .before .before .before .before .before .before .before .before .before .before .before .before .before .before .before .before .before .before .before .before .before .args in
+    let halves = c .before .before .before .before .before .before .before .before .before .before .before .before .before .before .before .before .before .before .before .halves-of in
     let s = sumOf (a .sum) (lent (a .ws) (a .fs) (a .sets) (a .coeffs)) in
-    let found = found-left s (a .sum .live) (a .y) (halves .result .l) _ (c .before .before .before .before .before .before .before .before .before .before .before .before .before .before .before .before .lowest-in .result) refl
+    let found = found-left s (setOf (a .sum .live)) (a .y) (setOf (halves .result .l)) _ (c .before .before .before .before .before .before .before .before .before .before .before .before .before .before .before .before .lowest-in .result) refl
     (c .before .before .before .before .before .before .before .before .before .before .before .before .before .before .before .before .before .without .ensures) (c .before .before .before .before .before .before .before .before .before .before .before .before .before .before .before .before .lowest-in .ensures) in
     let chosen =
-    step-chosen (a .y) (halves .result .c) (halves .result .l) s (countsOf (a .counts)) _
+    step-chosen (a .y) (halves .result .c) (setOf (halves .result .l)) s (countsOf (a .counts)) _
     (found ∙ ap foundOf (c .before .before .before .before .before .before .before .before .before .before .before .before .before .before .z .given .1))
     in
     let to = c .before .before .before .before .before .before .before .before .step-at .ensures in
@@ -107,11 +107,11 @@ same-length-10 c = search needs
 
 returns-3 : tie.Need-returns-3
 returns-3 c =
-    let a = c .before .before .before .before .before .before .before .before .before .before .before .before .before .before .before .before .before .before .before .before .before .before .before .before .before .before .before .args in
-    let halves = c .before .before .before .before .before .before .before .before .before .before .before .before .before .before .before .before .before .before .before .halves-of in
+    let a = c .before .before .before .before .before .before .before .before .before .before .before .before .before .before .before .before .before .before .before .before .before .before .before .before .before .before .before .before .args in
+    let halves = c .before .before .before .before .before .before .before .before .before .before .before .before .before .before .before .before .before .before .before .before .halves-of in
     let s = sumOf (a .sum) (lent (a .ws) (a .fs) (a .sets) (a .coeffs)) in
     let other = c .before .before .before .before .before .before .before .before .before .before .before .before .before .before .constrains .ensures .1 (c .before .before .before .before .before .before .before .before .before .before .before .before .before .if1 .left) in
-    let any = step-unchosen (a .y) (halves .result .c) (halves .result .l) s (countsOf (a .counts)) (a .y) other in
+    let any = step-unchosen (a .y) (halves .result .c) (setOf (halves .result .l)) s (countsOf (a .counts)) (a .y) other in
     let to = c .before .before .before .before .before .before .before .before .step-at2 .ensures in
     record {
       next = rw (to .free, ← halves .ensures .0, ← halves .ensures .1) (to .next ∙ any);

@@ -1,9 +1,9 @@
 -- `comparison_reducing::reducing::step_at` meets its contract: the tests on C and L tell the definition's three kinds of step apart.
 -- Assumes nothing.
-use mathlib.Core.Path.{_≡_, refl, sym, _∙_}
+use mathlib.Core.Path.{refl, sym}
 use native.Mathlib.Omega.{arith}
 use denote.Ref.{now}
-use Rattle.phase_sum_terms.specs.Workspace.{parityOf, lent, sumOf}
+use Rattle.phase_sum_terms.specs.Workspace.{setOf, parityOf, lent, sumOf}
 use Rattle.phase_sum_terms.proofs.Members.{members-hold}
 use Rattle.phase_sum_terms.proofs.Changing.{place-left, room-replace, room-takeOut, room-turned, sized-stands, still-sized}
 use Rattle.phase_sum_meaning.specs.Stepping.{takeOut}
@@ -40,16 +40,17 @@ returns c =
     let s = sumOf (a .sum) l in
     let kept = c .before .before .before .before .before .before .turn-out .kept .1 .1 .1 .1 in
     let became = c .before .before .before .before .before .before .turn-out .ensures (now (a .ws)) (now (a .fs)) in
-    let kind = kind-turn (a .c) (a .l) (c .before .before .before .before .before .before .before .before .before .if1 .taken) in
-    let room = room-turned (a .c) (a .l) (a .y) s (members-hold (a .sum .live) (a .y) (pre .0) (pre .1)) in
-    rw (c .goes .ensures)
-    (record {
-      next = rw (became .sum, c .before .add-turn .ensures) (sym (turn-to (a .y) (a .z) (a .c) (a .l) s (countsOf (a .counts)) kind));
-      free = refl;
+    let kind = kind-turn (a .c) (setOf (a .l)) (c .before .before .before .before .before .before .before .before .before .if1 .taken) in
+    let room = room-turned (a .c) (setOf (a .l)) (a .y) s (members-hold (setOf (a .sum .live)) (a .y) (pre .0) (pre .1)) in
+    let went = c .goes .ensures in
+    record {
+      next = rw (went .sum, went .counts, became .sum, c .before .add-turn .ensures) (sym (turn-to (a .y) (a .z) (a .c) (setOf (a .l)) s (countsOf (a .counts)) kind));
+      free = went .free;
       sized =
-          still-sized (a .sum) _ _ l _ (pre .4) room became
-          (record { wires = refl; flips = refl; sets = kept .0; coeffs = kept .1 .0 });
-    })
+          rw (went .sum)
+          (still-sized (a .sum) _ _ l _ (pre .4) room became
+          (record { wires = refl; flips = refl; sets = kept .0; coeffs = kept .1 .0 }));
+    }
 
 constrains-requires : tie.Need-constrains-requires
 constrains-requires c κs = search needs
@@ -92,16 +93,17 @@ returns-2 c =
     let kind = c .before .before .before .before .before .before .before .before .before .before .before .before .before .before .before .before .before .before .constrains .ensures .0 (c .before .before .before .before .before .before .before .before .before .before .before .before .before .before .before .before .before .if2 .taken) in
     let p-is = c .before .before .before .before .before .before .before .before .before .before .before .before .before .before .before .rest-of .ensures in
     let room = room-replace (a .z) (parityOf (c .before .before .before .before .before .before .before .before .before .before .before .before .before .before .before .rest-of .result)) (takeOut (a .y) s) in
-    rw (c .goes2 .ensures)
-    (record {
+    let went = c .goes2 .ensures in
+    record {
       next =
-          rw (became .sum, c .before .add-join .ensures, p-is, c .before .before .before .before .before .before .before .before .before .before .before .before .before .before .before .before .constraint-of .ensures)
-          (sym (join-to (a .y) (a .z) (a .c) (a .l) s (countsOf (a .counts)) kind));
-      free = refl;
+          rw (went .sum, went .counts, became .sum, c .before .add-join .ensures, p-is, c .before .before .before .before .before .before .before .before .before .before .before .before .before .before .before .before .constraint-of .ensures)
+          (sym (join-to (a .y) (a .z) (a .c) (setOf (a .l)) s (countsOf (a .counts)) kind));
+      free = went .free;
       sized =
-          still-sized (a .sum) _ _ l _ (pre .4) (omega (arith, room, room-takeOut (a .y) s)) became
-          (record { wires = kept .0; flips = kept .1 .0; sets = kept .1 .1 .0; coeffs = kept .1 .1 .1 .0 });
-    })
+          rw (went .sum)
+          (still-sized (a .sum) _ _ l _ (pre .4) (omega (arith, room, room-takeOut (a .y) s)) became
+          (record { wires = kept .0; flips = kept .1 .0; sets = kept .1 .1 .0; coeffs = kept .1 .1 .1 .0 }));
+    }
 
 take-out-requires : tie.Need-take-out-requires
 take-out-requires c κs = let stands = sized-stands (c .before .before .before .before .before .before .before .before .before .pre .4) in (c .before .before .before .before .before .before .before .before .before .pre .1, stands .sets, stands .coeffs)
@@ -126,15 +128,16 @@ returns-3 c =
     let s = sumOf (a .sum) l in
     let kept = c .before .before .before .before .before .before .take-out .kept .1 .1 in
     let became = c .before .before .before .before .before .before .take-out .ensures (now (a .ws)) (now (a .fs)) in
-    let kind = kind-rest (a .c) (a .l) (c .before .before .before .before .before .before .before .before .before .before .before .if1 .left) (c .before .before .before .before .before .before .before .before .before .before .constrains .ensures .1 (c .before .before .before .before .before .before .before .before .before .if2 .left)) in
-    rw (c .goes3 .ensures)
-    (record {
-      next = rw (became .sum, c .before .add-sum .ensures) (sym (sum-to (a .y) (a .z) (a .c) (a .l) s (countsOf (a .counts)) kind));
-      free = refl;
+    let kind = kind-rest (a .c) (setOf (a .l)) (c .before .before .before .before .before .before .before .before .before .before .before .if1 .left) (c .before .before .before .before .before .before .before .before .before .before .constrains .ensures .1 (c .before .before .before .before .before .before .before .before .before .if2 .left)) in
+    let went = c .goes3 .ensures in
+    record {
+      next = rw (went .sum, went .counts, became .sum, c .before .add-sum .ensures) (sym (sum-to (a .y) (a .z) (a .c) (setOf (a .l)) s (countsOf (a .counts)) kind));
+      free = went .free;
       sized =
-          still-sized (a .sum) _ _ l _ (pre .4) (room-takeOut (a .y) s) became
-          (record { wires = refl; flips = refl; sets = kept .0; coeffs = kept .1 .0 });
-    })
+          rw (went .sum)
+          (still-sized (a .sum) _ _ l _ (pre .4) (room-takeOut (a .y) s) became
+          (record { wires = refl; flips = refl; sets = kept .0; coeffs = kept .1 .0 }));
+    }
 
 pub step-at-spec : {M : Type 1} → statement M
 step-at-spec =
