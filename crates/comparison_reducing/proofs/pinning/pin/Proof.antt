@@ -25,38 +25,66 @@ loop-holds : tie.Need-loop-holds Inv-loop μ-loop
 loop-holds c = none-pinned (c .before .before .before .before .before .args .sum) _ (c .before .before .before .before .before .pre)
 
 pin-qubit-requires : tie.Need-pin-qubit-requires Inv-loop μ-loop
-pin-qubit-requires c κs = let to = c .before .before .before .before .before .before .before .loop .inv in (c .before .before .before .before .before .before .loop-test .taken, to .pins, to .sized)
+pin-qubit-requires c κs =
+    let in-loop = c .before .before .before .before .before .before in
+    let at-loop = in-loop .before in
+    let to = at-loop .loop .inv in (in-loop .loop-test .taken, to .pins, to .sized)
 
 same-length : tie.Need-same-length Inv-loop μ-loop
-same-length c = c .before .before .before .before .before .before .before .before .before .pin-qubit .kept .1 .1 .1 .0 ∙ c .before .before .before .before .before .before .before .before .before .before .before .before .before .before .before .before .before .loop .inv .long .wires
+same-length c =
+    let at-pin-qubit = c .before .before .before .before .before .before .before .before .before in
+    let at-loop = at-pin-qubit .before .before .before .before .before .before .before .before in
+    at-pin-qubit .pin-qubit .kept .1 .1 .1 .0 ∙ at-loop .loop .inv .long .wires
 
 same-length-2 : tie.Need-same-length-2 Inv-loop μ-loop
-same-length-2 c = c .before .before .before .before .before .before .before .before .before .pin-qubit .kept .1 .1 .1 .1 .0 ∙ c .before .before .before .before .before .before .before .before .before .before .before .before .before .before .before .before .before .loop .inv .long .flips
+same-length-2 c =
+    let at-pin-qubit = c .before .before .before .before .before .before .before .before .before in
+    let at-loop = at-pin-qubit .before .before .before .before .before .before .before .before in
+    at-pin-qubit .pin-qubit .kept .1 .1 .1 .1 .0 ∙ at-loop .loop .inv .long .flips
 
 same-length-3 : tie.Need-same-length-3 Inv-loop μ-loop
-same-length-3 c = c .before .before .before .before .before .before .before .before .before .pin-qubit .kept .1 .1 .1 .1 .1 .0 ∙ c .before .before .before .before .before .before .before .before .before .before .before .before .before .before .before .before .before .loop .inv .long .sets
+same-length-3 c =
+    let at-pin-qubit = c .before .before .before .before .before .before .before .before .before in
+    let at-loop = at-pin-qubit .before .before .before .before .before .before .before .before in
+    at-pin-qubit .pin-qubit .kept .1 .1 .1 .1 .1 .0 ∙ at-loop .loop .inv .long .sets
 
 same-length-4 : tie.Need-same-length-4 Inv-loop μ-loop
-same-length-4 c = c .before .before .before .before .before .before .before .before .before .pin-qubit .kept .1 .1 .1 .1 .1 .1 .0 ∙ c .before .before .before .before .before .before .before .before .before .before .before .before .before .before .before .before .before .loop .inv .long .coeffs
+same-length-4 c =
+    let at-pin-qubit = c .before .before .before .before .before .before .before .before .before in
+    let at-loop = at-pin-qubit .before .before .before .before .before .before .before .before in
+    at-pin-qubit .pin-qubit .kept .1 .1 .1 .1 .1 .1 .0 ∙ at-loop .loop .inv .long .coeffs
 
 returns : tie.Need-returns Inv-loop μ-loop
 returns c =
-    let loop = c .before .before .before .before .before .before .before .before .before .before .before .before .before .before .before .before .before .loop in
-    let here : loop .q < length (now (c .before .before .before .before .before .before .before .before .before .before .before .before .before .before .before .before .before .before .before .before .before .before .before .args .ws)) = omega (arith, c .before .before .before .before .before .before .before .before .before .before .before .before .before .before .before .before .loop-test .taken, loop .inv .long .wires) in
-    pinned-blocked (loop .q) (c .before .before .before .before .before .before .before .before .before .before .before .before .before .before .before .before .before .before .before .before .before .before .before .args .sum) (loop .end) (c .before .before .before .before .before .before .before .before .before .pin-qubit .result) here (loop .inv) (c .before .before .before .before .before .before .before .before .before .pin-qubit .ensures) (c .if1 .taken)
+    let at-pin-qubit = c .before .before .before .before .before .before .before .before .before in
+    let in-loop = at-pin-qubit .before .before .before .before .before .before .before in
+    let at-loop = in-loop .before in
+    let start = at-loop .before .before .before .before .before .before in
+    let loop = at-loop .loop in
+    let here : loop .q < length (now (start .args .ws)) = omega (arith, in-loop .loop-test .taken, loop .inv .long .wires) in
+    pinned-blocked (loop .q) (start .args .sum) (loop .end) (at-pin-qubit .pin-qubit .result) here (loop .inv) (at-pin-qubit .pin-qubit .ensures) (c .if1 .taken)
 
 add-q : tie.Need-add-q Inv-loop μ-loop
-add-q c = omega (arith, c .before .before .before .before .before .before .before .before .before .before .before .before .before .before .before .before .loop-test .taken)
+add-q c =
+    let in-loop = c .before .before .before .before .before .before .before .before .before .before .before .before .before .before .before .before in
+    omega (arith, in-loop .loop-test .taken)
 
 loop-less : tie.Need-loop-less Inv-loop μ-loop
-loop-less c = omega (arith, c .before .before .before .before .before .before .before .before .before .before .before .before .before .before .before .before .loop-test .taken, c .before .before .before .before .before .before .before .before .before .before .before .before .before .before .before .before .before .loop .inv .long .wires)
+loop-less c =
+    let in-loop = c .before .before .before .before .before .before .before .before .before .before .before .before .before .before .before .before in
+    let at-loop = in-loop .before in
+    omega (arith, in-loop .loop-test .taken, at-loop .loop .inv .long .wires)
 
 loop-again : tie.Need-loop-again Inv-loop μ-loop
 loop-again c =
-    let loop = c .before .before .before .before .before .before .before .before .before .before .before .before .before .before .before .before .before .loop in
-    let kept = c .before .before .before .before .before .before .before .before .before .pin-qubit .kept .1 .1 .1 in
-    let here : loop .q < length (now (c .before .before .before .before .before .before .before .before .before .before .before .before .before .before .before .before .before .before .before .before .before .before .before .args .ws)) = omega (arith, c .before .before .before .before .before .before .before .before .before .before .before .before .before .before .before .before .loop-test .taken, loop .inv .long .wires) in
-    more-pinned (loop .q) (c .before .before .before .before .before .before .before .before .before .before .before .before .before .before .before .before .before .before .before .before .before .before .before .args .sum) (loop .end) (c .before .before .before .before .before .before .before .before .before .pin-qubit .result) here (loop .inv) (c .before .before .before .before .before .before .before .before .before .pin-qubit .ensures) (c .if1 .left)
+    let at-pin-qubit = c .before .before .before .before .before .before .before .before .before in
+    let in-loop = at-pin-qubit .before .before .before .before .before .before .before in
+    let at-loop = in-loop .before in
+    let start = at-loop .before .before .before .before .before .before in
+    let loop = at-loop .loop in
+    let kept = at-pin-qubit .pin-qubit .kept .1 .1 .1 in
+    let here : loop .q < length (now (start .args .ws)) = omega (arith, in-loop .loop-test .taken, loop .inv .long .wires) in
+    more-pinned (loop .q) (start .args .sum) (loop .end) (at-pin-qubit .pin-qubit .result) here (loop .inv) (at-pin-qubit .pin-qubit .ensures) (c .if1 .left)
     (record { wires = kept .0; flips = kept .1 .0; sets = kept .1 .1 .0; coeffs = kept .1 .1 .1 .0 })
 
 same-length-5 : tie.Need-same-length-5 Inv-loop μ-loop
@@ -73,8 +101,9 @@ same-length-8 c = c .before .loop .inv .long .coeffs
 
 returns-2 : tie.Need-returns-2 Inv-loop μ-loop
 returns-2 c =
+    let start = c .before .before .before .before .before .before .before in
     let loop = c .before .loop in
-    all-pinned (loop .q) (c .before .before .before .before .before .before .before .args .sum) _ (omega (arith, c .loop-test .left, loop .inv .long .wires)) (loop .inv)
+    all-pinned (loop .q) (start .args .sum) _ (omega (arith, c .loop-test .left, loop .inv .long .wires)) (loop .inv)
 
 pub pin-spec : {M : Type 1} → statement M
 pin-spec =

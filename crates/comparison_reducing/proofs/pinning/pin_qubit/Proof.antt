@@ -11,7 +11,8 @@ use Rattle.comparison_reducing.proofs.pinning.pin_qubit.Tie as tie
 
 mismatch-requires : tie.Need-mismatch-requires
 mismatch-requires c κs =
-    let pre = c .before .before .before .before .before .before .pre in
+    let start = c .before .before .before .before .before .before in
+    let pre = start .pre in
     (omega (arith, pre .0, pre .2 .few), pre .0, omega (arith, pre .0, pre .2 .flips))
 
 lowest-in-requires : tie.Need-lowest-in-requires
@@ -25,10 +26,15 @@ rest-of-requires c κs = found-below _ _ _ (sym (c .before .before .before .lowe
 
 replace-requires : tie.Need-replace-requires
 replace-requires c κs =
-    (found-below _ _ _ (sym (c .before .before .before .before .before .before .before .before .lowest-in .ensures) ∙ ap foundOf (c .before .before .before .before .before .before .z .given .1)), sized-stands (c .before .before .before .before .before .before .before .before .before .before .before .before .before .before .before .before .pre .2))
+    let at-z = c .before .before .before .before .before .before in
+    let at-lowest-in = at-z .before .before in
+    let start = at-lowest-in .before .before .before .before .before .before .before .before in
+    (found-below _ _ _ (sym (at-lowest-in .lowest-in .ensures) ∙ ap foundOf (at-z .z .given .1)), sized-stands (start .pre .2))
 
 add-pin-requires : tie.Need-add-pin-requires
-add-pin-requires c κs = let pre = c .before .before .before .before .before .before .before .before .before .before .before .before .before .before .before .before .before .before .before .before .before .before .before .before .before .pre in omega (arith, pre .0, pre .1, pre .2 .few)
+add-pin-requires c κs =
+    let start = c .before .before .before .before .before .before .before .before .before .before .before .before .before .before .before .before .before .before .before .before .before .before .before .before .before in
+    let pre = start .pre in omega (arith, pre .0, pre .1, pre .2 .few)
 
 enum-told : tie.Need-enum-told
 enum-told c = search needs
@@ -50,12 +56,18 @@ same-length-4 c = search needs
 
 returns : tie.Need-returns
 returns c =
-    let a = c .before .before .before .before .before .before .before .before .before .before .before .before .before .before .before .before .before .before .before .before .before .before .before .before .before .before .args in
-    let pre = c .before .before .before .before .before .before .before .before .before .before .before .before .before .before .before .before .before .before .before .before .before .before .before .before .before .before .pre in
-    let kept = c .before .before .before .before .before .before .before .before .before .replace .kept .1 .1 .1 in
-    pinned-found (a .q) _ (c .before .before .before .before .before .before .before .before .before .before .before .before .before .before .before .before .before .before .before .mismatch .result) (c .before .before .before .before .before .before .before .before .before .before .before .before .before .before .rest-of .result) (a .sum) (a .counts) _ (c .before .before .before .before .before .before .before .before .before .replace .result) (pre .0) (pre .1)
-    (pre .2) (c .before .before .before .before .before .before .before .before .before .before .before .before .before .before .before .before .before .before .before .mismatch .ensures) (sym (c .before .before .before .before .before .before .before .before .before .before .before .before .before .before .before .before .before .before .lowest-in .ensures) ∙ ap foundOf (c .before .before .before .before .before .before .before .before .before .before .before .before .before .before .before .before .z .given .1)) (c .before .before .before .before .before .before .before .before .before .before .before .before .before .before .rest-of .ensures)
-    (c .before .before .before .before .before .before .before .before .before .replace .ensures) (record { wires = kept .0; flips = kept .1 .0; sets = kept .1 .1 .0; coeffs = kept .1 .1 .1 .0 })
+    let at-replace = c .before .before .before .before .before .before .before .before .before in
+    let at-rest-of = at-replace .before .before .before .before .before in
+    let at-z = at-rest-of .before .before in
+    let at-lowest-in = at-z .before .before in
+    let at-mismatch = at-lowest-in .before in
+    let start = at-mismatch .before .before .before .before .before .before .before in
+    let a = start .args in
+    let pre = start .pre in
+    let kept = at-replace .replace .kept .1 .1 .1 in
+    pinned-found (a .q) _ (at-mismatch .mismatch .result) (at-rest-of .rest-of .result) (a .sum) (a .counts) _ (at-replace .replace .result) (pre .0) (pre .1)
+    (pre .2) (at-mismatch .mismatch .ensures) (sym (at-lowest-in .lowest-in .ensures) ∙ ap foundOf (at-z .z .given .1)) (at-rest-of .rest-of .ensures)
+    (at-replace .replace .ensures) (record { wires = kept .0; flips = kept .1 .0; sets = kept .1 .1 .0; coeffs = kept .1 .1 .1 .0 })
     (c .add-pin .ensures)
 
 same-length-5 : tie.Need-same-length-5
@@ -66,10 +78,13 @@ same-length-6 c = search needs
 
 returns-2 : tie.Need-returns-2
 returns-2 c =
-    let a = c .before .before .before .before .before .before .before .before .before .before .before .args in
-    let pre = c .before .before .before .before .before .before .before .before .before .before .before .pre in
-    pinned-free (a .q) (c .before .before .before .before .mismatch .result) (c .is-zero .result) (a .sum) (a .counts) (pre .1) (pre .2) (c .before .before .before .before .mismatch .ensures)
-    (sym (c .before .before .before .lowest-in .ensures) ∙ ap foundOf (c .before .enum-told .given .1)) (c .is-zero .ensures)
+    let at-lowest-in = c .before .before .before in
+    let at-mismatch = at-lowest-in .before in
+    let start = at-mismatch .before .before .before .before .before .before .before in
+    let a = start .args in
+    let pre = start .pre in
+    pinned-free (a .q) (at-mismatch .mismatch .result) (c .is-zero .result) (a .sum) (a .counts) (pre .1) (pre .2) (at-mismatch .mismatch .ensures)
+    (sym (at-lowest-in .lowest-in .ensures) ∙ ap foundOf (c .before .enum-told .given .1)) (c .is-zero .ensures)
 
 pub pin-qubit-spec : {M : Type 1} → statement M
 pin-qubit-spec =

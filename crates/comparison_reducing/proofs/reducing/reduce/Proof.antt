@@ -24,8 +24,9 @@ count-requires c κs = search needs
 
 loop-holds : tie.Need-loop-holds Inv-loop μ-loop
 loop-holds c =
-    let a = c .before .before .before .before .before .before .args in
-    going-starts (a .sum) (a .counts) (c .before .goes .result) (c .before .goes .ensures) (c .count .ensures) (c .before .before .before .before .before .before .pre .0) (c .before .before .before .before .before .before .pre .1)
+    let start = c .before .before .before .before .before .before in
+    let a = start .args in
+    going-starts (a .sum) (a .counts) (c .before .goes .result) (c .before .goes .ensures) (c .count .ensures) (start .pre .0) (start .pre .1)
 
 ready-requires : tie.Need-ready-requires Inv-loop μ-loop
 ready-requires c κs = let stands = sized-stands (c .before .before .before .before .loop .inv .sized) in (stands .sets, stands .coeffs)
@@ -37,72 +38,119 @@ enum-told : tie.Need-enum-told Inv-loop μ-loop
 enum-told c = search needs
 
 same-length : tie.Need-same-length Inv-loop μ-loop
-same-length c = c .before .before .before .before .before .before .before .loop .inv .long .wires
+same-length c =
+    let at-loop = c .before .before .before .before .before .before .before in
+    at-loop .loop .inv .long .wires
 
 same-length-2 : tie.Need-same-length-2 Inv-loop μ-loop
-same-length-2 c = c .before .before .before .before .before .before .before .loop .inv .long .flips
+same-length-2 c =
+    let at-loop = c .before .before .before .before .before .before .before in
+    at-loop .loop .inv .long .flips
 
 same-length-3 : tie.Need-same-length-3 Inv-loop μ-loop
-same-length-3 c = c .before .before .before .before .before .before .before .loop .inv .long .sets
+same-length-3 c =
+    let at-loop = c .before .before .before .before .before .before .before in
+    at-loop .loop .inv .long .sets
 
 same-length-4 : tie.Need-same-length-4 Inv-loop μ-loop
-same-length-4 c = c .before .before .before .before .before .before .before .loop .inv .long .coeffs
+same-length-4 c =
+    let at-loop = c .before .before .before .before .before .before .before in
+    at-loop .loop .inv .long .coeffs
 
 returns : tie.Need-returns Inv-loop μ-loop
 returns c =
-    let a = c .before .before .before .before .before .before .before .before .before .before .before .before .before .before .args in
-    let p = c .before .before .before .before .before .before .before .loop in
+    let at-loop = c .before .before .before .before .before .before .before in
+    let at-count = at-loop .before in
+    let at-goes = at-count .before in
+    let start = at-goes .before .before .before .before .before in
+    let a = start .args in
+    let p = at-loop .loop in
     let l = lent (a .ws) (a .fs) (a .sets) (a .coeffs) in
     let l′ = slices (p .ws) (p .fs) (p .sets) (p .coeffs) in
-    going-idle (a .sum) (a .counts) (p .end) l l′ (p .left) (going-from (c .before .before .before .before .before .before .before .before .before .goes .result) (c .before .before .before .before .before .before .before .before .before .goes .ensures) (c .before .before .before .before .before .before .before .before .count .ensures) (p .inv))
+    going-idle (a .sum) (a .counts) (p .end) l l′ (p .left) (going-from (at-goes .goes .result) (at-goes .goes .ensures) (at-count .count .ensures) (p .inv))
     (sym (c .before .before .ready .ensures) ∙ ap foundOf (c .enum-told .given .1))
 
 step-requires : tie.Need-step-requires Inv-loop μ-loop
 step-requires c κs =
-    let p = c .before .before .before .before .before .before .before .before .before .before .before .before .before .loop in
-    let member = ready-member (setOf (p .end .sum .live)) _ _ (sym (c .before .before .before .before .before .before .before .before .ready .ensures) ∙ ap foundOf (c .before .before .before .before .before .before .y .given .1)) in
+    let at-y = c .before .before .before .before .before .before in
+    let at-ready = at-y .before .before in
+    let at-loop = at-ready .before .before .before .before .before in
+    let p = at-loop .loop in
+    let member = ready-member (setOf (p .end .sum .live)) _ _ (sym (at-ready .ready .ensures) ∙ ap foundOf (at-y .y .given .1)) in
     (member .0, member .1, going-few (p .inv), p .inv .sized)
 
 same-length-5 : tie.Need-same-length-5 Inv-loop μ-loop
-same-length-5 c = c .before .before .before .before .before .before .before .before .before .step .kept .1 .1 .1 .0 ∙ c .before .before .before .before .before .before .before .before .before .before .before .before .before .before .before .before .before .before .before .before .before .before .before .loop .inv .long .wires
+same-length-5 c =
+    let at-step = c .before .before .before .before .before .before .before .before .before in
+    let at-loop = at-step .before .before .before .before .before .before .before .before .before .before .before .before .before .before in
+    at-step .step .kept .1 .1 .1 .0 ∙ at-loop .loop .inv .long .wires
 
 same-length-6 : tie.Need-same-length-6 Inv-loop μ-loop
-same-length-6 c = c .before .before .before .before .before .before .before .before .before .step .kept .1 .1 .1 .1 .0 ∙ c .before .before .before .before .before .before .before .before .before .before .before .before .before .before .before .before .before .before .before .before .before .before .before .loop .inv .long .flips
+same-length-6 c =
+    let at-step = c .before .before .before .before .before .before .before .before .before in
+    let at-loop = at-step .before .before .before .before .before .before .before .before .before .before .before .before .before .before in
+    at-step .step .kept .1 .1 .1 .1 .0 ∙ at-loop .loop .inv .long .flips
 
 same-length-7 : tie.Need-same-length-7 Inv-loop μ-loop
-same-length-7 c = c .before .before .before .before .before .before .before .before .before .step .kept .1 .1 .1 .1 .1 .0 ∙ c .before .before .before .before .before .before .before .before .before .before .before .before .before .before .before .before .before .before .before .before .before .before .before .loop .inv .long .sets
+same-length-7 c =
+    let at-step = c .before .before .before .before .before .before .before .before .before in
+    let at-loop = at-step .before .before .before .before .before .before .before .before .before .before .before .before .before .before in
+    at-step .step .kept .1 .1 .1 .1 .1 .0 ∙ at-loop .loop .inv .long .sets
 
 same-length-8 : tie.Need-same-length-8 Inv-loop μ-loop
-same-length-8 c = c .before .before .before .before .before .before .before .before .before .step .kept .1 .1 .1 .1 .1 .1 .0 ∙ c .before .before .before .before .before .before .before .before .before .before .before .before .before .before .before .before .before .before .before .before .before .before .before .loop .inv .long .coeffs
+same-length-8 c =
+    let at-step = c .before .before .before .before .before .before .before .before .before in
+    let at-loop = at-step .before .before .before .before .before .before .before .before .before .before .before .before .before .before in
+    at-step .step .kept .1 .1 .1 .1 .1 .1 .0 ∙ at-loop .loop .inv .long .coeffs
 
 returns-2 : tie.Need-returns-2 Inv-loop μ-loop
 returns-2 c =
-    let a = c .before .before .before .before .before .before .before .before .before .before .before .before .before .before .before .before .before .before .before .before .before .before .before .before .before .before .before .before .before .before .args in
-    let p = c .before .before .before .before .before .before .before .before .before .before .before .before .before .before .before .before .before .before .before .before .before .before .before .loop in
+    let at-step = c .before .before .before .before .before .before .before .before .before in
+    let at-y = at-step .before .before .before .before .before .before .before in
+    let at-ready = at-y .before .before in
+    let in-loop = at-ready .before .before .before .before in
+    let at-loop = in-loop .before in
+    let at-count = at-loop .before in
+    let at-goes = at-count .before in
+    let start = at-goes .before .before .before .before .before in
+    let a = start .args in
+    let p = at-loop .loop in
     let l = lent (a .ws) (a .fs) (a .sets) (a .coeffs) in
     let l′ = slices (p .ws) (p .fs) (p .sets) (p .coeffs) in
-    let to = c .before .before .before .before .before .before .before .before .before .step .ensures in
-    going-blocked (a .sum) (a .counts) (p .end) l l′ (p .left) (going-from (c .before .before .before .before .before .before .before .before .before .before .before .before .before .before .before .before .before .before .before .before .before .before .before .before .before .goes .result) (c .before .before .before .before .before .before .before .before .before .before .before .before .before .before .before .before .before .before .before .before .before .before .before .before .before .goes .ensures) (c .before .before .before .before .before .before .before .before .before .before .before .before .before .before .before .before .before .before .before .before .before .before .before .before .count .ensures) (p .inv))
-    _ (c .before .before .before .before .before .before .before .before .before .step .result) _ (c .before .before .before .before .before .before .before .before .before .before .before .before .before .before .before .before .before .before .before .before .before .before .loop-test .taken) (sym (c .before .before .before .before .before .before .before .before .before .before .before .before .before .before .before .before .before .before .ready .ensures) ∙ ap foundOf (c .before .before .before .before .before .before .before .before .before .before .before .before .before .before .before .before .y .given .1)) (to .next) (to .sized)
+    let to = at-step .step .ensures in
+    going-blocked (a .sum) (a .counts) (p .end) l l′ (p .left) (going-from (at-goes .goes .result) (at-goes .goes .ensures) (at-count .count .ensures) (p .inv))
+    _ (at-step .step .result) _ (in-loop .loop-test .taken) (sym (at-ready .ready .ensures) ∙ ap foundOf (at-y .y .given .1)) (to .next) (to .sized)
     (c .if1 .taken) (to .stays)
 
 sub-left : tie.Need-sub-left Inv-loop μ-loop
-sub-left c = c .before .before .before .before .before .before .before .before .before .before .before .before .before .before .before .before .before .before .before .before .before .before .loop-test .taken
+sub-left c =
+    let in-loop = c .before .before .before .before .before .before .before .before .before .before .before .before .before .before .before .before .before .before .before .before .before .before in
+    in-loop .loop-test .taken
 
 loop-less : tie.Need-loop-less Inv-loop μ-loop
-loop-less c = omega (arith, c .before .before .before .before .before .before .before .before .before .before .before .before .before .before .before .before .before .before .before .before .before .before .loop-test .taken)
+loop-less c =
+    let in-loop = c .before .before .before .before .before .before .before .before .before .before .before .before .before .before .before .before .before .before .before .before .before .before in
+    omega (arith, in-loop .loop-test .taken)
 
 loop-again : tie.Need-loop-again Inv-loop μ-loop
 loop-again c =
-    let a = c .before .before .before .before .before .before .before .before .before .before .before .before .before .before .before .before .before .before .before .before .before .before .before .before .before .before .before .before .before .before .args in
-    let p = c .before .before .before .before .before .before .before .before .before .before .before .before .before .before .before .before .before .before .before .before .before .before .before .loop in
+    let at-step = c .before .before .before .before .before .before .before .before .before in
+    let at-y = at-step .before .before .before .before .before .before .before in
+    let at-ready = at-y .before .before in
+    let in-loop = at-ready .before .before .before .before in
+    let at-loop = in-loop .before in
+    let at-count = at-loop .before in
+    let at-goes = at-count .before in
+    let start = at-goes .before .before .before .before .before in
+    let a = start .args in
+    let p = at-loop .loop in
     let l = lent (a .ws) (a .fs) (a .sets) (a .coeffs) in
     let l′ = slices (p .ws) (p .fs) (p .sets) (p .coeffs) in
-    let to = c .before .before .before .before .before .before .before .before .before .step .ensures in
-    let kept = c .before .before .before .before .before .before .before .before .before .step .kept .1 .1 .1 in
-    going-back (c .before .before .before .before .before .before .before .before .before .before .before .before .before .before .before .before .before .before .before .before .before .before .before .before .before .goes .result) (c .before .before .before .before .before .before .before .before .before .before .before .before .before .before .before .before .before .before .before .before .before .before .before .before .before .goes .ensures) (c .before .before .before .before .before .before .before .before .before .before .before .before .before .before .before .before .before .before .before .before .before .before .before .before .count .ensures)
-    (going-on (a .sum) (a .counts) (p .end) l l′ (p .left) (going-from (c .before .before .before .before .before .before .before .before .before .before .before .before .before .before .before .before .before .before .before .before .before .before .before .before .before .goes .result) (c .before .before .before .before .before .before .before .before .before .before .before .before .before .before .before .before .before .before .before .before .before .before .before .before .before .goes .ensures) (c .before .before .before .before .before .before .before .before .before .before .before .before .before .before .before .before .before .before .before .before .before .before .before .before .count .ensures) (p .inv))
-    _ (c .before .before .before .before .before .before .before .before .before .step .result) _ (c .before .before .before .before .before .before .before .before .before .before .before .before .before .before .before .before .before .before .before .before .before .before .loop-test .taken) (sym (c .before .before .before .before .before .before .before .before .before .before .before .before .before .before .before .before .before .before .ready .ensures) ∙ ap foundOf (c .before .before .before .before .before .before .before .before .before .before .before .before .before .before .before .before .y .given .1)) (to .next) (to .sized)
+    let to = at-step .step .ensures in
+    let kept = at-step .step .kept .1 .1 .1 in
+    going-back (at-goes .goes .result) (at-goes .goes .ensures) (at-count .count .ensures)
+    (going-on (a .sum) (a .counts) (p .end) l l′ (p .left) (going-from (at-goes .goes .result) (at-goes .goes .ensures) (at-count .count .ensures) (p .inv))
+    _ (at-step .step .result) _ (in-loop .loop-test .taken) (sym (at-ready .ready .ensures) ∙ ap foundOf (at-y .y .given .1)) (to .next) (to .sized)
     (c .if1 .left) (record { wires = kept .0; flips = kept .1 .0; sets = kept .1 .1 .0; coeffs = kept .1 .1 .1 .0 }))
 
 same-length-9 : tie.Need-same-length-9 Inv-loop μ-loop
@@ -119,11 +167,13 @@ same-length-12 c = c .before .loop .inv .long .coeffs
 
 returns-3 : tie.Need-returns-3 Inv-loop μ-loop
 returns-3 c =
-    let a = c .before .before .before .before .before .before .before .before .args in
+    let at-goes = c .before .before .before in
+    let start = at-goes .before .before .before .before .before in
+    let a = start .args in
     let p = c .before .loop in
     let l = lent (a .ws) (a .fs) (a .sets) (a .coeffs) in
     let l′ = slices (p .ws) (p .fs) (p .sets) (p .coeffs) in
-    going-spent (a .sum) (a .counts) (p .end) l l′ (p .left) (going-from (c .before .before .before .goes .result) (c .before .before .before .goes .ensures) (c .before .before .count .ensures) (p .inv)) (c .loop-test .left)
+    going-spent (a .sum) (a .counts) (p .end) l l′ (p .left) (going-from (at-goes .goes .result) (at-goes .goes .ensures) (c .before .before .count .ensures) (p .inv)) (c .loop-test .left)
 
 pub reduce-spec : {M : Type 1} → statement M
 reduce-spec =

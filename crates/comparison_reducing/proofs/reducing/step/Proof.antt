@@ -13,7 +13,9 @@ use Rattle.comparison_reducing.proofs.reducing.step.Statement.{statemen
 use Rattle.comparison_reducing.proofs.reducing.step.Tie as tie
 
 halves-of-requires : tie.Need-halves-of-requires
-halves-of-requires c κs = let stands = sized-stands (c .before .before .before .before .before .before .before .pre .3) in (c .before .before .before .before .before .before .before .pre .1, stands .sets, stands .coeffs)
+halves-of-requires c κs =
+    let start = c .before .before .before .before .before .before .before in
+    let stands = sized-stands (start .pre .3) in (start .pre .1, stands .sets, stands .coeffs)
 
 without-requires : tie.Need-without-requires
 without-requires c κs = search needs
@@ -26,8 +28,11 @@ enum-known-z c = search needs
 
 step-at-requires : tie.Need-step-at-requires
 step-at-requires c κs =
-    let pre = c .before .before .before .before .before .before .before .before .before .before .before .before .before .before .before .before .before .before .pre in
-    (pre .0, pre .1, found-below _ _ _ (sym (c .before .before .before .before .before .before .before .lowest-in .ensures) ∙ ap foundOf (c .before .before .before .before .before .z .given .1)), pre .2, pre .3)
+    let at-z = c .before .before .before .before .before in
+    let at-lowest-in = at-z .before .before in
+    let start = at-lowest-in .before .before .before .before .before .before .before .before .before .before .before in
+    let pre = start .pre in
+    (pre .0, pre .1, found-below _ _ _ (sym (at-lowest-in .lowest-in .ensures) ∙ ap foundOf (at-z .z .given .1)), pre .2, pre .3)
 
 enum-told : tie.Need-enum-told
 enum-told c = search needs
@@ -46,22 +51,29 @@ same-length-2 c = search needs
 
 returns : tie.Need-returns
 returns c =
-    let a = c .before .before .before .before .before .before .before .before .before .before .before .before .before .before .before .before .args in
-    let halves = c .before .before .before .before .before .before .before .before .halves-of in
+    let at-enum-told = c .before .before .before in
+    let at-lowest-in = at-enum-told .before .before in
+    let at-without = at-lowest-in .before in
+    let at-halves-of = at-without .before .before in
+    let start = at-halves-of .before .before .before .before .before .before .before .before in
+    let a = start .args in
+    let halves = at-halves-of .halves-of in
     let s = sumOf (a .sum) (lent (a .ws) (a .fs) (a .sets) (a .coeffs)) in
-    let found = found-left s (setOf (a .sum .live)) (a .y) (setOf (halves .result .l)) _ (c .before .before .before .before .before .lowest-in .result) refl
-    (c .before .before .before .before .before .before .without .ensures) (c .before .before .before .before .before .lowest-in .ensures) in
-    let none-left = found ∙ ap foundOf (c .before .before .before .enum-told .given .1) in
+    let found = found-left s (setOf (a .sum .live)) (a .y) (setOf (halves .result .l)) _ (at-lowest-in .lowest-in .result) refl
+    (at-without .without .ensures) (at-lowest-in .lowest-in .ensures) in
+    let none-left = found ∙ ap foundOf (at-enum-told .enum-told .given .1) in
     let kind = c .before .before .constrains .ensures .0 (c .before .if1 .taken) in
     let stuck = step-stuck (a .y) (halves .result .c) (setOf (halves .result .l)) s (countsOf (a .counts)) kind none-left in
     record {
       next = rw (c .constraint-of .ensures, ← halves .ensures .0, ← halves .ensures .1) (sym stuck);
       stays = λ b. (refl, refl, refl);
-      sized = c .before .before .before .before .before .before .before .before .before .before .before .before .before .before .before .before .pre .3;
+      sized = start .pre .3;
     }
 
 step-at-requires-2 : tie.Need-step-at-requires-2
-step-at-requires-2 c κs = let pre = c .before .before .before .before .before .before .before .before .before .before .before .before .before .before .before .before .before .before .before .pre in (pre .0, pre .1, pre .1, pre .2, pre .3)
+step-at-requires-2 c κs =
+    let start = c .before .before .before .before .before .before .before .before .before .before .before .before .before .before .before .before .before .before .before in
+    let pre = start .pre in (pre .0, pre .1, pre .1, pre .2, pre .3)
 
 same-length-3 : tie.Need-same-length-3
 same-length-3 c = search needs
@@ -77,16 +89,22 @@ same-length-6 c = search needs
 
 returns-2 : tie.Need-returns-2
 returns-2 c =
-    let a = c .before .before .before .before .before .before .before .before .before .before .before .before .before .before .before .before .before .before .before .before .before .before .before .before .before .before .before .args in
-    let halves = c .before .before .before .before .before .before .before .before .before .before .before .before .before .before .before .before .before .before .before .halves-of in
+    let at-step-at = c .before .before .before .before .before .before .before .before in
+    let at-z = at-step-at .before .before .before .before .before .before in
+    let at-lowest-in = at-z .before .before in
+    let at-without = at-lowest-in .before in
+    let at-halves-of = at-without .before .before in
+    let start = at-halves-of .before .before .before .before .before .before .before .before in
+    let a = start .args in
+    let halves = at-halves-of .halves-of in
     let s = sumOf (a .sum) (lent (a .ws) (a .fs) (a .sets) (a .coeffs)) in
-    let found = found-left s (setOf (a .sum .live)) (a .y) (setOf (halves .result .l)) _ (c .before .before .before .before .before .before .before .before .before .before .before .before .before .before .before .before .lowest-in .result) refl
-    (c .before .before .before .before .before .before .before .before .before .before .before .before .before .before .before .before .before .without .ensures) (c .before .before .before .before .before .before .before .before .before .before .before .before .before .before .before .before .lowest-in .ensures) in
+    let found = found-left s (setOf (a .sum .live)) (a .y) (setOf (halves .result .l)) _ (at-lowest-in .lowest-in .result) refl
+    (at-without .without .ensures) (at-lowest-in .lowest-in .ensures) in
     let chosen =
     step-chosen (a .y) (halves .result .c) (setOf (halves .result .l)) s (countsOf (a .counts)) _
-    (found ∙ ap foundOf (c .before .before .before .before .before .before .before .before .before .before .before .before .before .before .z .given .1))
+    (found ∙ ap foundOf (at-z .z .given .1))
     in
-    let to = c .before .before .before .before .before .before .before .before .step-at .ensures in
+    let to = at-step-at .step-at .ensures in
     record {
       next = rw (to .free, ← halves .ensures .0, ← halves .ensures .1) (to .next ∙ chosen);
       stays = λ b. absurd (true≢false (sym b ∙ to .free));
@@ -107,12 +125,17 @@ same-length-10 c = search needs
 
 returns-3 : tie.Need-returns-3
 returns-3 c =
-    let a = c .before .before .before .before .before .before .before .before .before .before .before .before .before .before .before .before .before .before .before .before .before .before .before .before .before .before .before .before .args in
-    let halves = c .before .before .before .before .before .before .before .before .before .before .before .before .before .before .before .before .before .before .before .before .halves-of in
+    let at-step-at2 = c .before .before .before .before .before .before .before .before in
+    let at-if1 = at-step-at2 .before .before .before .before .before in
+    let at-constrains = at-if1 .before in
+    let at-halves-of = at-constrains .before .before .before .before .before .before in
+    let start = at-halves-of .before .before .before .before .before .before .before .before in
+    let a = start .args in
+    let halves = at-halves-of .halves-of in
     let s = sumOf (a .sum) (lent (a .ws) (a .fs) (a .sets) (a .coeffs)) in
-    let other = c .before .before .before .before .before .before .before .before .before .before .before .before .before .before .constrains .ensures .1 (c .before .before .before .before .before .before .before .before .before .before .before .before .before .if1 .left) in
+    let other = at-constrains .constrains .ensures .1 (at-if1 .if1 .left) in
     let any = step-unchosen (a .y) (halves .result .c) (setOf (halves .result .l)) s (countsOf (a .counts)) (a .y) other in
-    let to = c .before .before .before .before .before .before .before .before .step-at2 .ensures in
+    let to = at-step-at2 .step-at2 .ensures in
     record {
       next = rw (to .free, ← halves .ensures .0, ← halves .ensures .1) (to .next ∙ any);
       stays = λ b. absurd (true≢false (sym b ∙ to .free));

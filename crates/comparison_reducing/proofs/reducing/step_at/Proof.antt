@@ -15,13 +15,16 @@ use Rattle.comparison_reducing.proofs.reducing.step_at.Tie as tie
 
 turn-out-requires : tie.Need-turn-out-requires
 turn-out-requires c κs =
-    let a = c .before .before .before .before .before .before .before .args in
-    let pre = c .before .before .before .before .before .before .before .pre in
+    let start = c .before .before .before .before .before .before .before in
+    let a = start .args in
+    let pre = start .pre in
     let left = place-left (a .sum) (a .y) (pre .4) (pre .0) (pre .1) in
     (pre .1, left .0, left .1)
 
 add-turn-requires : tie.Need-add-turn-requires
-add-turn-requires c κs = omega (arith, c .before .before .before .before .before .before .before .before .before .before .before .before .pre .3 .turns)
+add-turn-requires c κs =
+    let start = c .before .before .before .before .before .before .before .before .before .before .before .before in
+    omega (arith, start .pre .3 .turns)
 
 goes-requires : tie.Need-goes-requires
 goes-requires c κs = search needs
@@ -34,13 +37,16 @@ same-length-2 c = search needs
 
 returns : tie.Need-returns
 returns c =
-    let a = c .before .before .before .before .before .before .before .before .before .before .before .before .before .before .args in
-    let pre = c .before .before .before .before .before .before .before .before .before .before .before .before .before .before .pre in
+    let at-turn-out = c .before .before .before .before .before .before in
+    let at-if1 = at-turn-out .before .before .before in
+    let start = at-if1 .before .before .before .before .before in
+    let a = start .args in
+    let pre = start .pre in
     let l = lent (a .ws) (a .fs) (a .sets) (a .coeffs) in
     let s = sumOf (a .sum) l in
-    let kept = c .before .before .before .before .before .before .turn-out .kept .1 .1 .1 .1 in
-    let became = c .before .before .before .before .before .before .turn-out .ensures (now (a .ws)) (now (a .fs)) in
-    let kind = kind-turn (a .c) (setOf (a .l)) (c .before .before .before .before .before .before .before .before .before .if1 .taken) in
+    let kept = at-turn-out .turn-out .kept .1 .1 .1 .1 in
+    let became = at-turn-out .turn-out .ensures (now (a .ws)) (now (a .fs)) in
+    let kind = kind-turn (a .c) (setOf (a .l)) (at-if1 .if1 .taken) in
     let room = room-turned (a .c) (setOf (a .l)) (a .y) s (members-hold (setOf (a .sum .live)) (a .y) (pre .0) (pre .1)) in
     let went = c .goes .ensures in
     record {
@@ -59,13 +65,19 @@ constraint-of-requires : tie.Need-constraint-of-requires
 constraint-of-requires c κs = search needs
 
 rest-of-requires : tie.Need-rest-of-requires
-rest-of-requires c κs = c .before .before .before .before .before .before .before .before .pre .2
+rest-of-requires c κs =
+    let start = c .before .before .before .before .before .before .before .before in
+    start .pre .2
 
 join-out-requires : tie.Need-join-out-requires
-join-out-requires c κs = let pre = c .before .before .before .before .before .before .before .before .before .before .before .before .before .pre in (pre .1, pre .2, sized-stands (pre .4))
+join-out-requires c κs =
+    let start = c .before .before .before .before .before .before .before .before .before .before .before .before .before in
+    let pre = start .pre in (pre .1, pre .2, sized-stands (pre .4))
 
 add-join-requires : tie.Need-add-join-requires
-add-join-requires c κs = omega (arith, c .before .before .before .before .before .before .before .before .before .before .before .before .before .before .before .before .before .before .before .before .before .before .pre .3 .joins)
+add-join-requires c κs =
+    let start = c .before .before .before .before .before .before .before .before .before .before .before .before .before .before .before .before .before .before .before .before .before .before in
+    omega (arith, start .pre .3 .joins)
 
 goes-requires-2 : tie.Need-goes-requires-2
 goes-requires-2 c κs = search needs
@@ -84,19 +96,25 @@ same-length-6 c = search needs
 
 returns-2 : tie.Need-returns-2
 returns-2 c =
-    let a = c .before .before .before .before .before .before .before .before .before .before .before .before .before .before .before .before .before .before .before .before .before .before .before .before .args in
-    let pre = c .before .before .before .before .before .before .before .before .before .before .before .before .before .before .before .before .before .before .before .before .before .before .before .before .pre in
+    let at-join-out = c .before .before .before .before .before .before .before .before .before .before in
+    let at-rest-of = at-join-out .before .before .before .before .before in
+    let at-constraint-of = at-rest-of .before in
+    let at-if2 = at-constraint-of .before in
+    let at-constrains = at-if2 .before in
+    let start = at-constrains .before .before .before .before .before .before in
+    let a = start .args in
+    let pre = start .pre in
     let l = lent (a .ws) (a .fs) (a .sets) (a .coeffs) in
     let s = sumOf (a .sum) l in
-    let kept = c .before .before .before .before .before .before .before .before .before .before .join-out .kept .1 .1 .1 .1 in
-    let became = c .before .before .before .before .before .before .before .before .before .before .join-out .ensures in
-    let kind = c .before .before .before .before .before .before .before .before .before .before .before .before .before .before .before .before .before .before .constrains .ensures .0 (c .before .before .before .before .before .before .before .before .before .before .before .before .before .before .before .before .before .if2 .taken) in
-    let p-is = c .before .before .before .before .before .before .before .before .before .before .before .before .before .before .before .rest-of .ensures in
-    let room = room-replace (a .z) (parityOf (c .before .before .before .before .before .before .before .before .before .before .before .before .before .before .before .rest-of .result)) (takeOut (a .y) s) in
+    let kept = at-join-out .join-out .kept .1 .1 .1 .1 in
+    let became = at-join-out .join-out .ensures in
+    let kind = at-constrains .constrains .ensures .0 (at-if2 .if2 .taken) in
+    let p-is = at-rest-of .rest-of .ensures in
+    let room = room-replace (a .z) (parityOf (at-rest-of .rest-of .result)) (takeOut (a .y) s) in
     let went = c .goes2 .ensures in
     record {
       next =
-          rw (went .sum, went .counts, became .sum, c .before .add-join .ensures, p-is, c .before .before .before .before .before .before .before .before .before .before .before .before .before .before .before .before .constraint-of .ensures)
+          rw (went .sum, went .counts, became .sum, c .before .add-join .ensures, p-is, at-constraint-of .constraint-of .ensures)
           (sym (join-to (a .y) (a .z) (a .c) (setOf (a .l)) s (countsOf (a .counts)) kind));
       free = went .free;
       sized =
@@ -106,10 +124,14 @@ returns-2 c =
     }
 
 take-out-requires : tie.Need-take-out-requires
-take-out-requires c κs = let stands = sized-stands (c .before .before .before .before .before .before .before .before .before .pre .4) in (c .before .before .before .before .before .before .before .before .before .pre .1, stands .sets, stands .coeffs)
+take-out-requires c κs =
+    let start = c .before .before .before .before .before .before .before .before .before in
+    let stands = sized-stands (start .pre .4) in (start .pre .1, stands .sets, stands .coeffs)
 
 add-sum-requires : tie.Need-add-sum-requires
-add-sum-requires c κs = omega (arith, c .before .before .before .before .before .before .before .before .before .before .before .before .before .before .pre .3 .sums)
+add-sum-requires c κs =
+    let start = c .before .before .before .before .before .before .before .before .before .before .before .before .before .before in
+    omega (arith, start .pre .3 .sums)
 
 goes-requires-3 : tie.Need-goes-requires-3
 goes-requires-3 c κs = search needs
@@ -122,13 +144,18 @@ same-length-8 c = search needs
 
 returns-3 : tie.Need-returns-3
 returns-3 c =
-    let a = c .before .before .before .before .before .before .before .before .before .before .before .before .before .before .before .before .args in
-    let pre = c .before .before .before .before .before .before .before .before .before .before .before .before .before .before .before .before .pre in
+    let at-take-out = c .before .before .before .before .before .before in
+    let at-if2 = at-take-out .before .before .before in
+    let at-constrains = at-if2 .before in
+    let at-if1 = at-constrains .before in
+    let start = at-if1 .before .before .before .before .before in
+    let a = start .args in
+    let pre = start .pre in
     let l = lent (a .ws) (a .fs) (a .sets) (a .coeffs) in
     let s = sumOf (a .sum) l in
-    let kept = c .before .before .before .before .before .before .take-out .kept .1 .1 in
-    let became = c .before .before .before .before .before .before .take-out .ensures (now (a .ws)) (now (a .fs)) in
-    let kind = kind-rest (a .c) (setOf (a .l)) (c .before .before .before .before .before .before .before .before .before .before .before .if1 .left) (c .before .before .before .before .before .before .before .before .before .before .constrains .ensures .1 (c .before .before .before .before .before .before .before .before .before .if2 .left)) in
+    let kept = at-take-out .take-out .kept .1 .1 in
+    let became = at-take-out .take-out .ensures (now (a .ws)) (now (a .fs)) in
+    let kind = kind-rest (a .c) (setOf (a .l)) (at-if1 .if1 .left) (at-constrains .constrains .ensures .1 (at-if2 .if2 .left)) in
     let went = c .goes3 .ensures in
     record {
       next = rw (went .sum, went .counts, became .sum, c .before .add-sum .ensures) (sym (sum-to (a .y) (a .z) (a .c) (setOf (a .l)) s (countsOf (a .counts)) kind));
