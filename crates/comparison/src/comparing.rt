@@ -1,14 +1,13 @@
 // The comparison: the checks on the pair, then building, pinning, reducing and the verdict.
 ghost use mathlib.Core.Path.{_≡_};
 ghost use Prim.Native.Nat.{_≤_};
-ghost use lib.ListN.{length};
-ghost use Rattle.phase_sum_meaning.specs.Room.{room, places};
+ghost use lib.ListN.{length, replicate};
 ghost use Rattle.phase_sum_terms.specs.Workspace.{lent, before, after, Sized};
 ghost use Rattle.phase_sum_terms.specs.Unmerged.{gatesIn, Buildable};
 ghost use Rattle.comparison_meaning.specs.Verdict.{compare};
 ghost use Rattle.comparison_types.specs.Call.{resultOf, saidOf, comparison, leftBy};
 ghost use Rattle.comparison_types.specs.Clauses.{Sound, Stops, Inputs, Clifford, CountsUp};
-ghost use Rattle.comparison_types.specs.Inner.{CountedTo, ReducesEnd, Kept, answerOf, ComparedRead};
+ghost use Rattle.comparison_types.specs.Inner.{CountedTo, ReducesEnd, answerOf, ComparedRead};
 use comparison_checking::PLACES;
 use comparison_checking::check_call;
 use comparison_judging::judging::judge;
@@ -61,25 +60,21 @@ fn decide_in(
     judge(end, n, sets, coeffs)
 }
 
-// The comparison of two lists of gates on n qubits, by their bytes, in the first places of the workspaces alone.
+// The comparison of two lists of gates on n qubits, by their bytes, in the places that are lent. All of them are zero afterwards.
 fn decide(n: usize, first: &[u8], second: &[u8], sets: &mut [u64], coeffs: &mut [u8]) -> Outcome
-    requires { ⌜ Buildable n (now first) (now second) (now sets) (now coeffs) × (room (gatesIn (now first)) (gatesIn (now second)) ≤ places) × (places ≤ length (now sets)) × (places ≤ length (now coeffs)) ⌝ }
+    requires { ⌜ Buildable n (now first) (now second) (now sets) (now coeffs) × (length (now coeffs) ≡ length (now sets)) ⌝ }
     ensures steps { λ r. ⌜ resultOf r ≡ compare 0 n (gatesIn (now (first .entry))) (gatesIn (now (second .entry))) ⌝ }
-    ensures kept { λ _. ⌜ Kept (now (sets .entry)) (now (coeffs .entry)) (now (sets .exit)) (now (coeffs .exit)) ⌝ }
+    ensures zero { λ _. ⌜ (now (sets .exit) ≡ replicate (length (now (sets .entry))) 0) × (now (coeffs .exit) ≡ replicate (length (now (coeffs .entry))) 0) ⌝ }
 {
     let mut ws = [0u64; 16];
     let mut fs = [false; 16];
-    decide_in(
-        first,
-        second,
-        &mut ws[..n],
-        &mut fs[..n],
-        &mut sets[..PLACES],
-        &mut coeffs[..PLACES],
-    )
+    let outcome = decide_in(first, second, &mut ws[..n], &mut fs[..n], sets, coeffs);
+    clear(sets, coeffs, sets.len());
+    outcome
 }
 
-// Two lists compared, each read once: the outcome with the gates of both lists, or why the pair is turned down.
+// Two lists compared, each read once: the outcome with the gates of both lists, or why the pair is turned down. Only the places that the
+// comparison may use are lent on.
 pub fn compare_read(first: &[u8], second: &[u8], sets: &mut [u64], coeffs: &mut [u8]) -> Comparison
     ensures steps { λ r. ⌜ saidOf (answerOf r) ≡ comparison (now (first .entry)) (now (second .entry)) (length (now (sets .entry))) (length (now (coeffs .entry))) ⌝ }
     ensures kept { λ r. ⌜ (now (sets .exit) ≡ leftBy (saidOf (answerOf r)) (now (sets .entry))) × (now (coeffs .exit) ≡ leftBy (saidOf (answerOf r)) (now (coeffs .entry))) ⌝ }
@@ -88,8 +83,13 @@ pub fn compare_read(first: &[u8], second: &[u8], sets: &mut [u64], coeffs: &mut 
     match check_call(first, second, sets.len(), coeffs.len()) {
         PairCheck::Refused(refusal) => Comparison::Refused(refusal),
         PairCheck::Good { n, g, h } => {
-            let outcome = decide(n, gate_bytes(first, g), gate_bytes(second, h), sets, coeffs);
-            clear(sets, coeffs, PLACES);
+            let outcome = decide(
+                n,
+                gate_bytes(first, g),
+                gate_bytes(second, h),
+                &mut sets[..PLACES],
+                &mut coeffs[..PLACES],
+            );
             Comparison::Done { outcome, g, h }
         }
     }

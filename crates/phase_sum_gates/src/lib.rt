@@ -15,9 +15,7 @@ use phase_sum_terms::Parity;
 use phase_sum_terms::Phase;
 use phase_sum_terms::Run;
 use phase_sum_terms::sets::exclusive_or;
-use phase_sum_terms::sets::load;
 use phase_sum_terms::sets::single;
-use phase_sum_terms::sets::store;
 use phase_sum_terms::terms::add;
 use phase_sum_terms::terms::append;
 use phase_sum_terms::terms::negate;
@@ -78,9 +76,8 @@ fn add_wire(ws: &mut [u64], fs: &mut [bool], control: usize, target: usize)
     requires { ⌜ (control < length (now ws)) × (target < length (now ws)) × (length (now fs) ≡ length (now ws)) ⌝ }
     ensures { λ _. ⌜ Moves (two CX control target) (zipWires (now (ws .entry)) (now (fs .entry))) (zipWires (now (ws .exit)) (now (fs .exit))) ⌝ }
 {
-    let sum = exclusive_or(load(ws, target), load(ws, control));
-    store(ws, target, sum);
-    fs[target] = fs[target] != fs[control];
+    let sum = both(wire(ws, fs, target), wire(ws, fs, control));
+    set_wire(ws, fs, target, sum);
 }
 
 // SWAP: two wires exchanged.

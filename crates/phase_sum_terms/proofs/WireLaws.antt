@@ -6,13 +6,13 @@ use Prim.Native.Nat.{ℕ, zero, suc, _+_, _-_, _≤_, _<_}
 use native.Mathlib.Nat.{le-of-suc-le-suc, zero-add}
 use native.Mathlib.Numerals.{add-one}
 use native.Mathlib.Omega.{arith}
-use mathlib.Core.Bool.{Bool, false, not, xor}
+use mathlib.Core.Bool.{Bool, false, not}
 use mathlib.Core.List.{List, [], _∷_, _++_, map, append-assoc, map-append}
 use lib.ListN.{length, getD, set, take, replicate, length-append, replicate-append-replicate}
 use lib.Seq.{take-all, take-suc-set}
 use Rattle.amplitude.proofs.BitLaws.{bit-zero}
 use Rattle.amplitude.proofs.XorLaws.{xor-trueˡ}
-use Rattle.phase_sum_meaning.specs.Sets.{_△_, single, from}
+use Rattle.phase_sum_meaning.specs.Sets.{single, from}
 use Rattle.phase_sum_meaning.specs.Parity.{Parity, of, _⊕_, complement}
 use Rattle.phase_sum_meaning.specs.Phase.{Term}
 use Rattle.phase_sum_meaning.specs.Building.{input, initial}
@@ -52,25 +52,6 @@ zip-flip [] bs q l k = absurd (omega arith)
 zip-flip (x ∷ ss) [] q l k = absurd (omega arith)
 zip-flip (x ∷ ss) (y ∷ bs) zero l k = rw (xor-trueˡ y)
 zip-flip (x ∷ ss) (y ∷ bs) (suc q) l k = rw (zip-flip ss bs q (le-of-suc-le-suc l) (le-of-suc-le-suc k))
-
--- one added to another
-pub zip-add :
-    (ss : List ℕ) (bs : List Bool) (c t : ℕ) →
-    c < length ss → c < length bs → t < length ss → t < length bs →
-    zipWires (set ss t (getD ss t 0 △ getD ss c 0)) (set bs t (xor (getD bs t false) (getD bs c false)))
-    ≡ set (zipWires ss bs) t (getD (zipWires ss bs) t (of 0) ⊕ getD (zipWires ss bs) c (of 0))
-unfolding _⊕_
-zip-add ss bs c t lc kc lt kt = rw (← zip-at ss bs t lt kt, ← zip-at ss bs c lc kc) (zip-set ss bs t _ _)
-
--- two exchanged
-pub zip-swap :
-    (ss : List ℕ) (bs : List Bool) (a b : ℕ) →
-    a < length ss → a < length bs → b < length ss → b < length bs →
-    zipWires (set (set ss a (getD ss b 0)) b (getD ss a 0)) (set (set bs a (getD bs b false)) b (getD bs a false))
-    ≡ set (set (zipWires ss bs) a (getD (zipWires ss bs) b (of 0))) b (getD (zipWires ss bs) a (of 0))
-zip-swap ss bs a b la ka lb kb =
-    rw (← zip-at ss bs a la ka, ← zip-at ss bs b lb kb, ← zip-set ss bs a (getD ss b 0) (getD bs b false))
-    (zip-set (set ss a (getD ss b 0)) (set bs a (getD bs b false)) b _ _)
 
 -- the sets of the inputs from a on, none complemented, are those inputs' parities
 zip-inputs : (a n : ℕ) → zipWires (map single (from a n)) (replicate n false) ≡ map (input 0) (from a n)

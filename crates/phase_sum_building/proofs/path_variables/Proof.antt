@@ -5,18 +5,22 @@ use Prim.Native.Nat.{_-_, _≤_}
 use mathlib.Core.Path.{_≡_}
 use native.Mathlib.Omega.{arith}
 use borrow.Author.Needs.{needs}
+use Rattle.phase_sum_terms.specs.Workspace.{setOf}
 use Rattle.phase_sum_terms.proofs.Windows.{Window, window-empty, window-more, members-window}
 use Rattle.phase_sum_building.proofs.path_variables.Statement.{statement}
 use Rattle.phase_sum_building.proofs.path_variables.Tie as tie
 
 abbrev Inv-loop : tie.InvT-loop
-Inv-loop n next set₀ v₀ set v = (n ≤ v) × (v ≤ next) × Window n v set
+Inv-loop n next set₀ v₀ set v = (n ≤ v) × (v ≤ next) × Window n v (setOf set)
 
 abbrev μ-loop : tie.MeasureT-loop
 μ-loop n next set₀ v₀ set v = next - v
 
+empty-requires : tie.Need-empty-requires Inv-loop μ-loop
+empty-requires c κs = search needs
+
 loop-holds : tie.Need-loop-holds Inv-loop μ-loop
-loop-holds c = (omega arith, omega arith, window-empty (c .args .n))
+loop-holds c = (omega arith, omega arith, rw (c .empty .ensures) (window-empty (c .before .args .n)))
 
 single-requires : tie.Need-single-requires Inv-loop μ-loop
 single-requires c κs = omega arith
@@ -32,19 +36,21 @@ loop-less c = omega arith
 
 loop-again : tie.Need-loop-again Inv-loop μ-loop
 loop-again c =
-    let at-loop = c .before .before .before in (
+    let at-loop = c .before .before .before in
+    let loop = at-loop .loop in (
       omega arith,
       omega arith,
-      window-more (at-loop .before .args .n) (at-loop .loop .v) (at-loop .loop .set) (c .union .result) (at-loop .loop .inv .0)
+      window-more (at-loop .before .before .args .n) (loop .v) (setOf (loop .set)) (setOf (c .union .result)) (loop .inv .0)
           (rw (c .before .single .ensures) at (c .union .ensures))
-          (at-loop .loop .inv .2),
+          (loop .inv .2),
     )
 
 returns : tie.Need-returns Inv-loop μ-loop
 returns c =
-    let a = c .before .before .args in
-    let done : c .before .loop .v ≡ a .next = omega arith in
-    members-window (a .n) (a .next) (c .before .loop .set) (omega arith) (omega arith) (rw done at (c .before .loop .inv .2))
+    let at-loop = c .before in
+    let a = at-loop .before .before .args in
+    let done : at-loop .loop .v ≡ a .next = omega arith in
+    members-window (a .n) (a .next) (setOf (at-loop .loop .set)) (omega arith) (omega arith) (rw done at (at-loop .loop .inv .2))
 
 pub path-variables-spec : {M : Type 1} → statement M
 path-variables-spec =
@@ -52,6 +58,7 @@ path-variables-spec =
     (tie.spec
     Inv-loop
     μ-loop
+    empty-requires
     loop-holds
     single-requires
     union-requires

@@ -1,6 +1,6 @@
 -- `phase_sum_building::start` meets its contract. The loop's invariant: the first q wires are inputs, none complemented.
 -- Assumes nothing.
-use mathlib.Core.Path.{_≡_, refl, sym, _∙_}
+use mathlib.Core.Path.{_≡_, refl, _∙_}
 use Prim.Native.Nat.{_-_, _≤_, zero-le}
 use native.Mathlib.Omega.{arith}
 use mathlib.Core.Bool.{false}
@@ -39,11 +39,8 @@ cast-single c = omega arith
 single-requires : tie.Need-single-requires Inv-loop μ-loop
 single-requires c κs = omega arith
 
-mul-ws : tie.Need-mul-ws Inv-loop μ-loop
-mul-ws c = omega arith
-
-slice-write-ws : tie.Need-slice-write-ws Inv-loop μ-loop
-slice-write-ws c = omega arith
+store-requires : tie.Need-store-requires Inv-loop μ-loop
+store-requires c κs = omega arith
 
 slice-write-fs : tie.Need-slice-write-fs Inv-loop μ-loop
 slice-write-fs c = omega arith
@@ -56,20 +53,23 @@ loop-less c = omega arith
 
 loop-again : tie.Need-loop-again Inv-loop μ-loop
 loop-again c =
-    let loop = c .before .before .loop in
-    let inv = loop .inv in (
+    let at-store = c .before .before in
+    let at-single = at-store .before in
+    let loop = at-single .before .before .before .loop in
+    let inv = loop .inv in
+    rw (at-store .store .ensures, at-single .single .ensures) (
       omega arith,
       inv .1,
       inv .2,
-      length-set (loop .ws) (loop .q) (c .single .result) ∙ inv .3,
+      length-set (loop .ws) (loop .q) (single (loop .q)) ∙ inv .3,
       length-set (loop .fs) (loop .q) false ∙ inv .4,
       inv .5,
-      rw (c .single .ensures) (inputs-more (loop .q) (loop .ws) (omega arith) (inv .6)),
+      inputs-more (loop .q) (loop .ws) (omega arith) (inv .6),
       flips-more (loop .q) (loop .fs) (omega arith) (inv .7),
     )
 
-cast-t11 : tie.Need-cast-t11 Inv-loop μ-loop
-cast-t11 c = omega arith
+cast-t12 : tie.Need-cast-t12 Inv-loop μ-loop
+cast-t12 c = omega arith
 
 same-length : tie.Need-same-length Inv-loop μ-loop
 same-length c = c .before .loop .inv .3 ∙ c .before .loop .inv .1
@@ -100,13 +100,12 @@ start-spec =
     loop-holds
     cast-single
     single-requires
-    mul-ws
-    slice-write-ws
+    store-requires
     slice-write-fs
     add-q
     loop-less
     loop-again
-    cast-t11
+    cast-t12
     same-length
     same-length-2
     returns)

@@ -1,44 +1,23 @@
 -- `phase_sum_gates::add_wire` meets its contract.
 -- Assumes nothing.
 use denote.Ref.{now}
-use Rattle.phase_sum_terms.proofs.WireLaws.{zip-add}
 use Rattle.phase_sum_terms.proofs.Running.{cx-moves}
 use Rattle.phase_sum_terms.specs.Workspace.{zipWires}
-use native.Mathlib.Omega.{arith}
-use mathlib.Core.Bool.{xor}
 use borrow.Author.Needs.{needs}
 use Rattle.phase_sum_gates.proofs.add_wire.Statement.{statement}
 use Rattle.phase_sum_gates.proofs.add_wire.Tie as tie
 
-mul-exclusive-or : tie.Need-mul-exclusive-or
-mul-exclusive-or c = search needs
+wire-requires : tie.Need-wire-requires
+wire-requires c κs = search needs
 
-slice-read-exclusive-or : tie.Need-slice-read-exclusive-or
-slice-read-exclusive-or c = search needs
+wire-requires-2 : tie.Need-wire-requires-2
+wire-requires-2 c κs = search needs
 
-mul-exclusive-or-2 : tie.Need-mul-exclusive-or-2
-mul-exclusive-or-2 c = search needs
+both-requires : tie.Need-both-requires
+both-requires c κs = search needs
 
-slice-read-exclusive-or-2 : tie.Need-slice-read-exclusive-or-2
-slice-read-exclusive-or-2 c = search needs
-
-exclusive-or-requires : tie.Need-exclusive-or-requires
-exclusive-or-requires c κs = search needs
-
-mul-ws : tie.Need-mul-ws
-mul-ws c = search needs
-
-slice-write-ws : tie.Need-slice-write-ws
-slice-write-ws c = search needs
-
-slice-read-fs : tie.Need-slice-read-fs
-slice-read-fs c = search needs
-
-slice-read-fs-2 : tie.Need-slice-read-fs-2
-slice-read-fs-2 c = search needs
-
-slice-write-fs : tie.Need-slice-write-fs
-slice-write-fs c = search needs
+set-wire-requires : tie.Need-set-wire-requires
+set-wire-requires c κs = search needs
 
 same-length : tie.Need-same-length
 same-length c = search needs
@@ -47,30 +26,23 @@ same-length-2 : tie.Need-same-length-2
 same-length-2 c = search needs
 
 returns : tie.Need-returns
-unfolding xor
 returns c =
-    let at-start = c .before .before .before .before .before .before .before in
-    let a = at-start .args in
-    let pre = at-start .pre in
-    let ws = now (a .ws) in
-    let fs = now (a .fs) in
-    let added = zip-add ws fs (a .control) (a .target) (pre .0) (omega (arith, pre .0, pre .2)) (pre .1) (omega (arith, pre .1, pre .2)) in
-    rw (c .before .before .exclusive-or .ensures) (rw added (cx-moves (a .control) (a .target) (zipWires ws fs)))
+    let at-set = c .before .before .before .before in
+    let at-both = at-set .before .before .before in
+    let at-control = at-both .before in
+    let at-target = at-control .before .before .before in
+    let a = at-target .before .before .before .before .before .args in
+    rw (at-set .set-wire .ensures, at-both .both .ensures, at-control .wire2 .ensures, at-target .wire .ensures)
+    (cx-moves (a .control) (a .target) (zipWires (now (a .ws)) (now (a .fs))))
 
 pub add-wire-spec : {M : Type 1} → statement M
 add-wire-spec =
     tie.close
     (tie.spec
-    mul-exclusive-or
-    slice-read-exclusive-or
-    mul-exclusive-or-2
-    slice-read-exclusive-or-2
-    exclusive-or-requires
-    mul-ws
-    slice-write-ws
-    slice-read-fs
-    slice-read-fs-2
-    slice-write-fs
+    wire-requires
+    wire-requires-2
+    both-requires
+    set-wire-requires
     same-length
     same-length-2
     returns)
