@@ -7,7 +7,7 @@ use Rattle.amplitude.specs.Bits.{bit}
 use Rattle.phase_sum_meaning.specs.Sets.{_△_, xorUpTo, parityUpTo, parity, without, from, firstSuch}
 use Rattle.phase_sum_meaning.specs.Parity.{_⊕_, complement, rest, replaceIn}
 use Rattle.phase_sum_meaning.specs.Phase.{sumAt, phaseAt, keep, merge, addTerm, addConstant, addPhase, rebuild, inOdd}
-use Rattle.phase_sum_meaning.specs.Building.{input, initial, setWire, withPhase, hadamard, gate, gatesFrom, build}
+use Rattle.phase_sum_meaning.specs.Building.{input, initial, setWire, withPhase, hadamardBy, gateBy, gatesFrom, build}
 use Rattle.phase_sum_meaning.specs.Stepping.{replace, coeffs, outOf, oddHalves, takeOut, turned, kindOf}
 use Rattle.comparison_meaning.specs.Reduction.{addPin, addSum, addTurn, addJoin, pinFrom, stepWith, reduceFrom, reduceEnd}
 use Rattle.comparison_meaning.specs.Verdict.{Verdict, equal, different, undecided, number, numbered, weight, blockedInput, searched, judge, compare}
@@ -22,7 +22,7 @@ verdict-number-tells undecided = refl
 -- the comparison gives document 01's results
 pub p-rows : AllRight rows
 unfolding xor inverseKind inverseGate inverseList bit _△_ xorUpTo parityUpTo parity firstSuch without from _⊕_ complement rest replaceIn
-    sumAt phaseAt keep merge addTerm addConstant addPhase rebuild inOdd input initial setWire withPhase hadamard gate gatesFrom build
+    sumAt phaseAt keep merge addTerm addConstant addPhase rebuild inOdd input initial setWire withPhase hadamardBy gateBy gatesFrom build
     replace coeffs outOf oddHalves takeOut turned kindOf addPin addSum addTurn addJoin pinFrom stepWith reduceFrom
     reduceEnd weight blockedInput searched judge compare
 p-rows = (refl, (refl, (refl, (refl, (refl, (refl, (refl, (refl, (refl, (refl, tt))))))))))
@@ -30,7 +30,7 @@ p-rows = (refl, (refl, (refl, (refl, (refl, (refl, (refl, (refl, (refl, (refl, t
 -- and makes document 01's choices
 pub choice-rows : AllRight choices
 unfolding xor inverseKind inverseGate inverseList bit _△_ xorUpTo parityUpTo parity firstSuch without from _⊕_ complement rest replaceIn sumAt
-    phaseAt keep merge addTerm addConstant addPhase rebuild inOdd input initial setWire withPhase hadamard gate gatesFrom build
+    phaseAt keep merge addTerm addConstant addPhase rebuild inOdd input initial setWire withPhase hadamardBy gateBy gatesFrom build
     replace coeffs outOf oddHalves takeOut turned kindOf addPin addSum addTurn addJoin pinFrom stepWith reduceFrom
     reduceEnd weight blockedInput searched judge compare
 choice-rows = (refl, (refl, (refl, (refl, (refl, (refl, (refl, (refl, (refl, (refl, (refl, (refl, tt))))))))))))

@@ -14,7 +14,7 @@ use Rattle.record_format.specs.Gate.{Gate, one, two, X, Y, Z, S, S†, T, T†,
 use Rattle.phase_sum_meaning.specs.Sets.{firstIn, firstSuch}
 use Rattle.phase_sum_meaning.specs.Parity.{Parity, rest}
 use Rattle.phase_sum_meaning.specs.Phase.{Term, Phase, sumAt, phaseAt, minus, addTerm, addConstant, addPhase, rebuild}
-use Rattle.phase_sum_meaning.specs.Building.{PathSum, initial, setWire, withPhase, hadamard, gate, gatesFrom, build}
+use Rattle.phase_sum_meaning.specs.Building.{PathSum, initial, setWire, withPhase, hadamardBy, gateBy, gate, gatesFrom, build}
 use Rattle.phase_sum_meaning.specs.Stepping.{replace, firstReady, takeOut, turned, Kind, sum, turn, constraint, kindOf, constrained}
 use Rattle.comparison_meaning.specs.Reduction.{Counts, End, blocks, isZero, mismatch, addPin, pinFrom, Next, goes, stuck, stepWith, reduceFrom, reduceEnd, reduced}
 use Rattle.comparison_meaning.specs.Verdict.{candidates, left, firstDiffering, searched, judge, compare, miter}
@@ -69,7 +69,7 @@ same-rebuild f j k (t ∷ ts) = same-addPhase (t .coeff) (f (t .set)) (same-rebu
 
 -- a gate keeps two sums alike, whatever the factors of Y
 alike-gate : (y z n : ℕ) (g : Gate) {s t : PathSum} → Alike s t → Alike (gate y n g s) (gate z n g t)
-unfolding gate setWire withPhase hadamard
+unfolding gateBy setWire withPhase hadamardBy
 alike-gate y z n (one X q) (alike r) = alike r
 alike-gate y z n (one Y q) (alike r) = alike (same-addConstant y z (same-addPhase 4 _ r))
 alike-gate y z n (one Z q) (alike r) = alike (same-addPhase 4 _ r)

@@ -3,14 +3,14 @@
 ghost use mathlib.Core.Path.{_≡_};
 ghost use Prim.Native.Nat.{ℕ, _+_, _<_, _≤_};
 ghost use mathlib.Core.Bool.{true, false};
-ghost use mathlib.Core.List.{[], _∷_, _++_};
+ghost use mathlib.Core.List.{[], _∷_};
 ghost use lib.ListN.{length};
 ghost use Rattle.record_format.specs.Gate.{Within, gateOf, raw, one, two, X, Y, CX, CZ, SWAP};
 ghost use Rattle.phase_sum_meaning.specs.Parity.{_⊕_};
-ghost use Rattle.phase_sum_meaning.specs.Building.{PathSum};
-ghost use Rattle.phase_sum_terms.specs.Workspace.{held, parityOf, zipWires, Stored, lent, before, after};
-ghost use Rattle.phase_sum_terms.specs.Unmerged.{phaseTerm, productTerms, appendGate, sumIn, Runnable, Leaves, Runs, movesOnly, Moves};
-ghost use Rattle.phase_sum_terms.specs.Inner.{onH, phaseConstant, productConstant, appendPhase};
+ghost use Rattle.phase_sum_meaning.specs.Building.{PathSum, productBy};
+ghost use Rattle.phase_sum_terms.specs.Workspace.{phaseOf, Phased, alone, parityOf, zipWires, lent, before, after};
+ghost use Rattle.phase_sum_terms.specs.Unmerged.{putBehind, appendGate, sumIn, Runnable, Leaves, Runs, movesOnly, Moves};
+ghost use Rattle.phase_sum_terms.specs.Inner.{onH, appendPhase};
 use phase_sum_terms::Parity;
 use phase_sum_terms::Phase;
 use phase_sum_terms::Run;
@@ -36,8 +36,7 @@ pub fn both(u: Parity, v: Parity) -> Parity
 // A phase c on a wire, as one term more: on a complemented parity, c to the constant and the term −c.
 pub fn put_phase(phase: Phase, c: u8, w: Parity, sets: &mut [u64], coeffs: &mut [u8]) -> Phase
     requires { ⌜ (phase .count < length (now sets)) × (phase .count < length (now coeffs)) ⌝ }
-    ensures constant { λ r. ⌜ r .constant ≡ phaseConstant c (parityOf w) (phase .constant) ⌝ }
-    ensures terms { λ r. ⌜ Stored (phase .count) (held (phase .count) (now (sets .entry)) (now (coeffs .entry)) ++ phaseTerm c (parityOf w) ∷ []) (r .count) (now (sets .entry)) (now (coeffs .entry)) (now (sets .exit)) (now (coeffs .exit)) ⌝ }
+    ensures { λ r. ⌜ Phased (putBehind c (parityOf w) (phaseOf phase (now (sets .entry)) (now (coeffs .entry)))) (phase .count) r (now (sets .entry)) (now (coeffs .entry)) (now (sets .exit)) (now (coeffs .exit)) ⌝ }
 {
     let count = phase.count;
     if w.flipped {
@@ -55,8 +54,7 @@ pub fn put_phase(phase: Phase, c: u8, w: Parity, sets: &mut [u64], coeffs: &mut 
 // 4 on the product of two wires, by 4uv = 2u + 2v − 2(u ⊕ v).
 pub fn put_product(phase: Phase, u: Parity, v: Parity, sets: &mut [u64], coeffs: &mut [u8]) -> Phase
     requires { ⌜ (phase .count + 3 ≤ length (now sets)) × (phase .count + 3 ≤ length (now coeffs)) ⌝ }
-    ensures constant { λ r. ⌜ r .constant ≡ productConstant (parityOf u) (parityOf v) (phase .constant) ⌝ }
-    ensures terms { λ r. ⌜ Stored (phase .count) (held (phase .count) (now (sets .entry)) (now (coeffs .entry)) ++ productTerms (parityOf u) (parityOf v)) (r .count) (now (sets .entry)) (now (coeffs .entry)) (now (sets .exit)) (now (coeffs .exit)) ⌝ }
+    ensures { λ r. ⌜ Phased (productBy putBehind (parityOf u) (parityOf v) (alone (phaseOf phase (now (sets .entry)) (now (coeffs .entry)))) .phase) (phase .count) r (now (sets .entry)) (now (coeffs .entry)) (now (sets .exit)) (now (coeffs .exit)) ⌝ }
 {
     let once = put_phase(phase, 2, u, sets, coeffs);
     let twice = put_phase(once, 2, v, sets, coeffs);

@@ -10,7 +10,7 @@ use Rattle.amplitude.specs.Circuit.{tally}
 use Rattle.phase_sum_meaning.specs.Sets.{_△_, xorUpTo, without, from}
 use Rattle.phase_sum_meaning.specs.Parity.{Parity, of, _⊕_, complement, replaceIn}
 use Rattle.phase_sum_meaning.specs.Phase.{Phase, Term, term, keep, merge, addTerm, addConstant, addPhase, rebuild, inOdd}
-use Rattle.phase_sum_meaning.specs.Building.{PathSum, input, initial, setWire, withPhase, hadamard, gate, gatesFrom, build}
+use Rattle.phase_sum_meaning.specs.Building.{PathSum, input, initial, setWire, withPhase, hadamardBy, gateBy, gatesFrom, build}
 use Rattle.phase_sum_meaning.specs.Room.{roomFor, room}
 use Rattle.phase_sum_meaning.specs.Stepping.{replace, outOf, oddHalves, takeOut, turned, constrained}
 
@@ -38,22 +38,22 @@ sum φ ws vs = record { phase = φ; wires = ws; live = vs }
 
 -- H on input 0 brings variable 1, and 4 on the product of the two
 pub h-built : build 0 1 (one H 0 ∷ []) ≡ sum (phase 0 (term 1 2 ∷ term 2 2 ∷ term 3 6 ∷ [])) (of 2 ∷ []) (1 ∷ [])
-unfolding build gatesFrom gate hadamard initial input from withPhase addPhase addTerm addConstant merge keep _⊕_ _△_ xorUpTo bit xor
+unfolding build gatesFrom gateBy hadamardBy initial input from withPhase addPhase addTerm addConstant merge keep _⊕_ _△_ xorUpTo bit xor
 h-built = refl
 
 -- Y: −1 where the input is 1, the output complemented, and ω²
 pub y-built : build 0 1 (one Y 0 ∷ []) ≡ sum (phase 2 (term 1 4 ∷ [])) (not-of 1 ∷ []) []
-unfolding build gatesFrom gate initial input from setWire withPhase complement addPhase addTerm addConstant merge keep bit xor
+unfolding build gatesFrom gateBy initial input from setWire withPhase complement addPhase addTerm addConstant merge keep bit xor
 y-built = refl
 
 -- the inverse of T turns by −1
 pub t-inverse-built : build 0 1 (one T† 0 ∷ []) ≡ sum (phase 0 (term 1 7 ∷ [])) (of 1 ∷ []) []
-unfolding build gatesFrom gate initial input from withPhase addPhase addTerm merge keep bit
+unfolding build gatesFrom gateBy initial input from withPhase addPhase addTerm merge keep bit
 t-inverse-built = refl
 
 -- CX from 0 to 1 adds input 0 to wire 1
 pub cx-built : build 0 2 (two CX 0 1 ∷ []) ≡ sum (phase 0 []) (of 1 ∷ of 3 ∷ []) []
-unfolding build gatesFrom gate initial input from setWire _⊕_ _△_ xorUpTo bit xor
+unfolding build gatesFrom gateBy initial input from setWire _⊕_ _△_ xorUpTo bit xor
 cx-built = refl
 
 -- a phase of 1 on a complemented parity: the constant 1 and −1 on the parity

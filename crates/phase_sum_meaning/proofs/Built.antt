@@ -23,7 +23,7 @@ use Rattle.amplitude.proofs.BitLaws.{bit-put-same, bit-put-other, put-bit, put-
 use Rattle.phase_sum_meaning.specs.Sets.{_△_, single, from, Clear}
 use Rattle.phase_sum_meaning.specs.Parity.{Parity, value, of, _⊕_, complement}
 use Rattle.phase_sum_meaning.specs.Phase.{Phase, sumAt, phaseAt, addConstant, addPhase}
-use Rattle.phase_sum_meaning.specs.Building.{PathSum, input, initial, wire, setWire, withPhase, phaseOn, product, hadamard, gate, gatesFrom, build}
+use Rattle.phase_sum_meaning.specs.Building.{PathSum, input, initial, wire, setWire, withPhase, phaseBy, productBy, hadamardBy, gateBy, gate, gatesFrom, build}
 use Rattle.phase_sum_meaning.specs.Meaning.{sumOver, phasor}
 use Rattle.amplitude.proofs.XorLaws.{xor-falseˡ, xor-falseʳ, xor-trueˡ, xor-self, xor-assoc, xor-comm, xor-cancel}
 use Rattle.phase_sum_meaning.proofs.SetLaws.{bit-△, parity-single, parity-empty}
@@ -178,17 +178,17 @@ meaning-phase n k φ s v w h =
 
 -- a phase c on a wire turns where the output's bit is 1
 pub meaning-turn : (n c q : ℕ) (s : PathSum) (v w : ℕ) → q < n →
-    meaning n (phaseOn c (wire q s) s) v w ≡ ω^ (c * digit (bit q w)) (meaning n s v w)
+    meaning n (phaseBy addPhase c (wire q s) s) v w ≡ ω^ (c * digit (bit q w)) (meaning n s v w)
 meaning-turn n c q s v w l =
     meaning-phase n (c * digit (bit q w)) (addPhase c (wire q s) (s .phase)) s v w
     (λ x r. phasor-turn c (wire q s) (s .phase) x ∙ ap (λ (t : Bool). ω^ (c * digit t) (phasor (s .phase) x)) (r q l))
 
 -- 4 on the product of two wires negates where both of the output's bits are 1
 pub meaning-product : (n a b : ℕ) (s : PathSum) (v w : ℕ) → a < n → b < n →
-    meaning n (product (wire a s) (wire b s) s) v w ≡ ω^ (4 * digit (bit a w && bit b w)) (meaning n s v w)
+    meaning n (productBy addPhase (wire a s) (wire b s) s) v w ≡ ω^ (4 * digit (bit a w && bit b w)) (meaning n s v w)
 unfolding withPhase
 meaning-product n a b s v w la lb =
-    meaning-phase n (4 * digit (bit a w && bit b w)) (product (wire a s) (wire b s) s .phase) s v w
+    meaning-phase n (4 * digit (bit a w && bit b w)) (productBy addPhase (wire a s) (wire b s) s .phase) s v w
     (λ x r.
     phasor-product (wire a s) (wire b s) (s .phase) x
     ∙ ap₂ (λ (t u : Bool). ω^ (4 * digit (t && u)) (phasor (s .phase) x)) (r a la) (r b lb))
@@ -392,9 +392,9 @@ path-free n u wires φ w x out free =
 
 -- H: the new variable drops out, and leaves the two summands
 pub meaning-hadamard : (n q : ℕ) (s : PathSum) (v w : ℕ) → q < n → Fresh n s →
-    meaning n (hadamard (n + length (s .live)) q s) v w
+    meaning n (hadamardBy addPhase (n + length (s .live)) q s) v w
     ≡ meaning n s v (put q false w) +ω ω^ (4 * digit (bit q w)) (meaning n s v (put q true w))
-unfolding meaning hadamard withPhase
+unfolding meaning hadamardBy withPhase
 meaning-hadamard n q s v w l fresh =
     ap (λ (D : ℕ → Zω). D v) (sumOver-snoc (s .live) (n + length (s .live)) F)
     ∙ (ap (λ (D : ℕ → Zω). sumOver (s .live) D v) (both-pinned (n + length (s .live)) c F G turns free off on)
@@ -406,7 +406,7 @@ meaning-hadamard n q s v w l fresh =
     u = n + length (s .live)
 
     F : ℕ → Zω
-    F x = path n (set (s .wires) q (of (single u))) (product (wire q s) (of (single u)) s .phase) w x
+    F x = path n (set (s .wires) q (of (single u))) (productBy addPhase (wire q s) (of (single u)) s .phase) w x
 
     G : ℕ → Zω
     G x = path n (s .wires) (s .phase) (put q false w) x +ω ω^ (4 * digit (bit q w)) (path n (s .wires) (s .phase) (put q true w) x)
@@ -473,22 +473,22 @@ unfolding withPhase
 fresh-phase n φ s below fresh = record { live = fresh .live; width = fresh .width; wires = fresh .wires; terms = below }
 
 -- so does a phase added on a parity that holds none
-pub fresh-phase-on : (n c : ℕ) (p : Parity) (s : PathSum) → Below (n + length (s .live)) (p .vars) → Fresh n s → Fresh n (phaseOn c p s)
+pub fresh-phase-on : (n c : ℕ) (p : Parity) (s : PathSum) → Below (n + length (s .live)) (p .vars) → Fresh n s → Fresh n (phaseBy addPhase c p s)
 fresh-phase-on n c p s below fresh =
     fresh-phase n (addPhase c p (s .phase)) s
     (every-addPhase (λ t. Below (n + length (s .live)) (t .set)) c p (s .phase) (λ k. below) (fresh .terms)) fresh
 
 -- so does a product of two such parities
 pub fresh-product : (n : ℕ) (p q : Parity) (s : PathSum) → Below (n + length (s .live)) (p .vars) → Below (n + length (s .live)) (q .vars) →
-    Fresh n s → Fresh n (product p q s)
+    Fresh n s → Fresh n (productBy addPhase p q s)
 unfolding withPhase _⊕_
 fresh-product n p q s hp hq fresh =
-    fresh-phase-on n 6 (_⊕_ p q) (phaseOn 2 q (phaseOn 2 p s)) (below-△ (n + length (s .live)) (p .vars) (q .vars) hp hq)
-    (fresh-phase-on n 2 q (phaseOn 2 p s) hq (fresh-phase-on n 2 p s hp fresh))
+    fresh-phase-on n 6 (_⊕_ p q) (phaseBy addPhase 2 q (phaseBy addPhase 2 p s)) (below-△ (n + length (s .live)) (p .vars) (q .vars) hp hq)
+    (fresh-phase-on n 2 q (phaseBy addPhase 2 p s) hq (fresh-phase-on n 2 p s hp fresh))
 
 -- H brings the next path variable
-pub fresh-hadamard : (n q : ℕ) (s : PathSum) → q < n → Fresh n s → Fresh n (hadamard (n + length (s .live)) q s)
-unfolding hadamard withPhase _⊕_
+pub fresh-hadamard : (n q : ℕ) (s : PathSum) → q < n → Fresh n s → Fresh n (hadamardBy addPhase (n + length (s .live)) q s)
+unfolding hadamardBy withPhase _⊕_
 fresh-hadamard n q s l fresh =
     record {
       live = rw longer (rw from-snoc (ap (λ (zs : List ℕ). zs ++ u ∷ []) (fresh .live)));
@@ -527,7 +527,7 @@ fresh-hadamard n q s l fresh =
 
 -- a gate keeps a sum fresh
 pub fresh-gate : (n : ℕ) (g : Gate) (s : PathSum) → Within n g → Fresh n s → Fresh n (gate 2 n g s)
-unfolding gate complement _⊕_ withPhase setWire addConstant
+unfolding gateBy complement _⊕_ withPhase setWire addConstant
 fresh-gate n (one X q) s l fresh = fresh-set n q (complement (wire q s)) s l (fresh .wires q l) fresh
 fresh-gate n (one Y q) s l fresh =
     let t = fresh-phase-on n 4 (wire q s) s (fresh .wires q l) fresh in
@@ -606,26 +606,26 @@ Agrees n v ψ s = (w : ℕ) → w < 2 ^ n → ψ w ≡ meaning n s v w
 
 -- a diagonal gate, as a phase on its wire
 pub diagonal-step : (n v : ℕ) (u : OneQubit) (c q : ℕ) (ψ : State) (s : PathSum) → matrix u ≡ rows (ω 0) O O (ω c) → q < n →
-    Agrees n v ψ s → Agrees n v (apply (one u q) ψ) (phaseOn c (wire q s) s)
+    Agrees n v ψ s → Agrees n v (apply (one u q) ψ) (phaseBy addPhase c (wire q s) s)
 diagonal-step n v u c q ψ s e l same w lw =
     apply-diagonal u c q ψ w e ∙ (ap (ω^ (c * digit (bit q w))) (same w lw) ∙ sym (meaning-turn n c q s v w l))
 
 -- Y, as Z, X and a turn by 2
 pub Y-step : (n v q : ℕ) (ψ : State) (s : PathSum) → q < n → length (s .wires) ≡ n → Agrees n v ψ s →
     Agrees n v (apply (one Y q) ψ) (gate 2 n (one Y q) s)
-unfolding gate matrix withPhase
+unfolding gateBy matrix withPhase
 Y-step n v q ψ s l long same w lw =
     apply-crossing Y (λ t. 2 + 4 * digit (not t)) q ψ w refl
     ∙ (ω^-add 2 (4 * digit (not (bit q w))) (ψ other)
     ∙ (ap (ω^ 2) inner
-    ∙ (sym (meaning-phase n 2 (addConstant 2 (addPhase 4 (wire q s) (s .phase))) (phaseOn 4 (wire q s) s) v other
+    ∙ (sym (meaning-phase n 2 (addConstant 2 (addPhase 4 (wire q s) (s .phase))) (phaseBy addPhase 4 (wire q s) s) v other
     (λ x r. phasor-constant 2 (addPhase 4 (wire q s) (s .phase)) x))
     ∙ sym (meaning-complement n q (withPhase (addConstant 2 (addPhase 4 (wire q s) (s .phase))) s) v w l long))))
   where
     other : ℕ
     other = put q (not (bit q w)) w
 
-    inner : ω^ (4 * digit (not (bit q w))) (ψ other) ≡ meaning n (phaseOn 4 (wire q s) s) v other
+    inner : ω^ (4 * digit (not (bit q w))) (ψ other) ≡ meaning n (phaseBy addPhase 4 (wire q s) s) v other
     inner =
         ap₂ (λ (t : Bool) (z : Zω). ω^ (4 * digit t) z) (sym (bit-put-same q (not (bit q w)) w)) (same other (put-below n q _ w l lw))
         ∙ sym (meaning-turn n 4 q s v other l)
@@ -633,7 +633,7 @@ Y-step n v q ψ s l long same w lw =
 -- one gate on the state and on the sum
 pub gate-step : (n v : ℕ) (g : Gate) (ψ : State) (s : PathSum) → Within n g → Fresh n s → Agrees n v ψ s →
     Agrees n v (apply g ψ) (gate 2 n g s)
-unfolding gate matrix apply ω^
+unfolding gateBy matrix apply ω^
 gate-step n v (one X q) ψ s l fresh same w lw =
     apply-crossing X (λ t. 0) q ψ w refl
     ∙ (same (put q (not (bit q w)) w) (put-below n q (not (bit q w)) w l lw) ∙ sym (meaning-complement n q s v w l (fresh .width)))

@@ -15,7 +15,7 @@ use Rattle.amplitude.specs.Circuit.{tally, isT, tGates}
 use Rattle.phase_sum_meaning.specs.Sets.{single}
 use Rattle.phase_sum_meaning.specs.Parity.{Parity, of, _⊕_, replaceIn}
 use Rattle.phase_sum_meaning.specs.Phase.{Term, Phase, minus, keep, merge, addTerm, addConstant, addPhase, rebuild, inOdd}
-use Rattle.phase_sum_meaning.specs.Building.{PathSum, initial, wire, setWire, withPhase, product, hadamard, gate, gatesFrom, build}
+use Rattle.phase_sum_meaning.specs.Building.{PathSum, initial, wire, setWire, withPhase, productBy, hadamardBy, gateBy, gate, gatesFrom, build}
 use Rattle.phase_sum_meaning.specs.Stepping.{replace, outOf, takeOut, turned}
 use Rattle.phase_sum_meaning.proofs.ParityLaws.{replaceIn-absent}
 use Rattle.phase_sum_meaning.proofs.PhaseLaws.{keep-cases, merge-cases, Every, every-map}
@@ -153,13 +153,13 @@ noOdd-addPhase : (c : ℕ) (p : Parity) (φ : Phase) → c % 2 ≡ 0 → NoOdd (
 noOdd-addPhase c p φ even e = oddIn-addPhase (λ u. ⊥) c p φ e (λ odd. omega arith)
 
 -- nor does 4 on a product of two parities
-noOdd-product : (u v : Parity) (s : PathSum) → NoOdd (s .phase .terms) → NoOdd (product u v s .phase .terms)
+noOdd-product : (u v : Parity) (s : PathSum) → NoOdd (s .phase .terms) → NoOdd (productBy addPhase u v s .phase .terms)
 unfolding withPhase
 noOdd-product u v s e = noOdd-addPhase 6 (_⊕_ u v) _ refl (noOdd-addPhase 2 v _ refl (noOdd-addPhase 2 u (s .phase) refl e))
 
 -- nor does a gate other than T and its inverse
 noOdd-gate : (y n : ℕ) (g : Gate) (s : PathSum) → isT g ≡ 0 → NoOdd (s .phase .terms) → NoOdd (gate y n g s .phase .terms)
-unfolding gate setWire withPhase hadamard addConstant oneQubitKind
+unfolding gateBy setWire withPhase hadamardBy addConstant oneQubitKind
 noOdd-gate y n (one X q) s h e = e
 noOdd-gate y n (one Y q) s h e = noOdd-addPhase 4 (wire q s) (s .phase) refl e
 noOdd-gate y n (one Z q) s h e = noOdd-addPhase 4 (wire q s) (s .phase) refl e

@@ -14,7 +14,7 @@ use Rattle.amplitude.proofs.Linear.{tally-inverse}
 use Rattle.phase_sum_meaning.specs.Sets.{single}
 use Rattle.phase_sum_meaning.specs.Parity.{Parity, of, _⊕_, replaceIn}
 use Rattle.phase_sum_meaning.specs.Phase.{addConstant, addPhase}
-use Rattle.phase_sum_meaning.specs.Building.{PathSum, initial, wire, setWire, withPhase, product, hadamard, gate, gatesFrom, build}
+use Rattle.phase_sum_meaning.specs.Building.{PathSum, initial, wire, setWire, withPhase, productBy, hadamardBy, gateBy, gate, gatesFrom, build}
 use Rattle.phase_sum_meaning.specs.Stepping.{replace, outOf, takeOut, turned}
 use Rattle.phase_sum_meaning.specs.Room.{roomFor, room, mostVariables, places}
 use Rattle.phase_sum_meaning.proofs.PhaseLaws.{length-addTerm, length-addPhase, length-rebuild}
@@ -25,7 +25,7 @@ abbrev size : PathSum → ℕ
 size s = length (s .phase .terms) + length (s .live)
 
 -- a product of two parities adds at most three terms
-terms-product : (u v : Parity) (s : PathSum) → length (product u v s .phase .terms) ≤ 3 + length (s .phase .terms)
+terms-product : (u v : Parity) (s : PathSum) → length (productBy addPhase u v s .phase .terms) ≤ 3 + length (s .phase .terms)
 unfolding withPhase
 terms-product u v s =
     let one = addPhase 2 u (s .phase) in
@@ -34,7 +34,7 @@ terms-product u v s =
 
 -- a gate adds at most its room
 room-gate : (y n : ℕ) (g : Gate) (s : PathSum) → size (gate y n g s) ≤ roomFor g + size s
-unfolding gate setWire withPhase hadamard addConstant roomFor
+unfolding gateBy setWire withPhase hadamardBy addConstant roomFor
 room-gate y n (one X q) s = omega arith
 room-gate y n (one Y q) s = omega (arith, length-addPhase 4 (wire q s) (s .phase))
 room-gate y n (one Z q) s = omega (arith, length-addPhase 4 (wire q s) (s .phase))

@@ -19,7 +19,7 @@ use Rattle.amplitude.proofs.BitLaws.{bit-zero, bit-power-other}
 use Rattle.phase_sum_meaning.specs.Sets.{_△_, single, without, from, Among, here, there, firstIn}
 use Rattle.phase_sum_meaning.specs.Parity.{Parity, of, _⊕_, complement, rest, replaceIn}
 use Rattle.phase_sum_meaning.specs.Phase.{Term, Phase, addConstant, addPhase, rebuild, Canonical}
-use Rattle.phase_sum_meaning.specs.Building.{PathSum, input, initial, wire, setWire, withPhase, phaseOn, product, hadamard, gate, gatesFrom, build}
+use Rattle.phase_sum_meaning.specs.Building.{PathSum, input, initial, wire, setWire, withPhase, phaseBy, productBy, hadamardBy, gateBy, gate, gatesFrom, build}
 use Rattle.phase_sum_meaning.specs.Stepping.{replace, outOf, oddHalves, takeOut, turned}
 use Rattle.phase_sum_meaning.proofs.SetLaws.{bit-△}
 use Rattle.phase_sum_meaning.proofs.VariableLaws.{Rising, without-among, among-without, rising-without, length-without, from-among, from-rising, from-length, from-snoc, firstSuch-none, firstSuch-lowest}
@@ -96,7 +96,7 @@ sound-product :
     Holds n live (u .vars) →
     Holds n live (v .vars) →
     Sound n live (s .phase) →
-    Sound n live (product u v s .phase)
+    Sound n live (productBy addPhase u v s .phase)
 unfolding withPhase _⊕_
 sound-product n live u v s hu hv h =
     sound-addPhase n live 6 (_⊕_ u v) _ (holds-△ n live (u .vars) (v .vars) hu hv)
@@ -139,7 +139,7 @@ unfolding setWire
 held-setWire n q p s hp h = (h .0, λ r. set-keeps (λ w. Holds n (s .live) (w .vars)) (s .wires) q r p (of 0) hp (h .1 r))
 
 -- so does a phase on a wire
-held-turn : (n c q : ℕ) (s : PathSum) → Held n s → Held n (phaseOn c (wire q s) s)
+held-turn : (n c q : ℕ) (s : PathSum) → Held n s → Held n (phaseBy addPhase c (wire q s) s)
 unfolding withPhase
 held-turn n c q s h = (sound-addPhase n (s .live) c (wire q s) (s .phase) (h .1 q) (h .0), h .1)
 
@@ -154,8 +154,8 @@ among-last [] v = here
 among-last (u ∷ us) v = there (among-last us v)
 
 -- so does an H gate, which brings the live variable v
-held-hadamard : (n v q : ℕ) (s : PathSum) → Held n s → Held n (hadamard v q s)
-unfolding hadamard withPhase
+held-hadamard : (n v q : ℕ) (s : PathSum) → Held n s → Held n (hadamardBy addPhase v q s)
+unfolding hadamardBy withPhase
 held-hadamard n v q s h = (
   sound-product n live (wire q s) (of (single v)) s (old (wire q s .vars) (h .1 q)) new sound,
   λ r. set-keeps (λ w. Holds n live (w .vars)) (s .wires) q r (of (single v)) (of 0) new (old (wire r s .vars) (h .1 r)),
@@ -175,10 +175,10 @@ held-hadamard n v q s h = (
 
 -- so does every gate
 held-gate : (y n : ℕ) (g : Gate) (s : PathSum) → Held n s → Held n (gate y n g s)
-unfolding gate setWire withPhase complement _⊕_
+unfolding gateBy setWire withPhase complement _⊕_
 held-gate y n (one X q) s h = held-setWire n q (complement (wire q s)) s (h .1 q) h
 held-gate y n (one Y q) s h =
-    let t = phaseOn 4 (wire q s) s in
+    let t = phaseBy addPhase 4 (wire q s) s in
     let ht : Held n t = held-turn n 4 q s h in
     held-setWire n q (complement (wire q t)) (withPhase (addConstant y (t .phase)) t) (h .1 q)
     (sound-addConstant n (s .live) y (t .phase) (ht .0), h .1)
@@ -222,7 +222,7 @@ held-initial scratch n = (
 
 -- a gate brings a live variable where it is an H
 live-gate : (y n k : ℕ) (g : Gate) (s : PathSum) → s .live ≡ from n k → gate y n g s .live ≡ from n (k + isH g)
-unfolding gate hadamard setWire withPhase oneQubitKind
+unfolding gateBy hadamardBy setWire withPhase oneQubitKind
 live-gate y n k (one X q) s e = rw add-zero e
 live-gate y n k (one Y q) s e = rw add-zero e
 live-gate y n k (one Z q) s e = rw add-zero e

@@ -38,35 +38,43 @@ setWire q p s = record { phase = s .phase; wires = set (s .wires) q p; live = s 
 unfoldable pub withPhase : Phase → PathSum → PathSum
 withPhase φ s = record { phase = φ; wires = s .wires; live = s .live }
 
+-- a way to put a phase c on a parity into a phase polynomial
+abbrev pub Putting : Type 0
+Putting = ℕ → Parity → Phase → Phase
+
 -- c on a parity
-abbrev pub phaseOn : ℕ → Parity → PathSum → PathSum
-phaseOn c p s = withPhase (addPhase c p (s .phase)) s
+abbrev pub phaseBy : Putting → ℕ → Parity → PathSum → PathSum
+phaseBy put c p s = withPhase (put c p (s .phase)) s
 
 -- 4 on a product of two parities, by 4uv = 2u + 2v − 2(u ⊕ v)
-abbrev pub product : Parity → Parity → PathSum → PathSum
-product u v s = phaseOn 6 (u ⊕ v) (phaseOn 2 v (phaseOn 2 u s))
+abbrev pub productBy : Putting → Parity → Parity → PathSum → PathSum
+productBy put u v s = phaseBy put 6 (u ⊕ v) (phaseBy put 2 v (phaseBy put 2 u s))
 
 -- H on wire q: the new path variable v comes in
-unfoldable pub hadamard : ℕ → ℕ → PathSum → PathSum
-hadamard v q s =
-    let t = product (wire q s) (of (single v)) s in
+unfoldable pub hadamardBy : Putting → ℕ → ℕ → PathSum → PathSum
+hadamardBy put v q s =
+    let t = productBy put (wire q s) (of (single v)) s in
     record { phase = t .phase; wires = set (t .wires) q (of (single v)); live = t .live ++ v ∷ [] }
 
--- what one gate does to the sum of a list on n qubits. Y is Z followed by X and its published factor ω^y, y = 2
-unfoldable pub gate : ℕ → ℕ → Gate → PathSum → PathSum
-gate y n (one X q) s = setWire q (complement (wire q s)) s
-gate y n (one Y q) s =
-    let t = phaseOn 4 (wire q s) s in
+-- the table: what one gate does to the sum of a list on n qubits. Y is Z followed by X and its published factor ω^y, y = 2
+unfoldable pub gateBy : Putting → ℕ → ℕ → Gate → PathSum → PathSum
+gateBy put y n (one X q) s = setWire q (complement (wire q s)) s
+gateBy put y n (one Y q) s =
+    let t = phaseBy put 4 (wire q s) s in
     setWire q (complement (wire q t)) (withPhase (addConstant y (t .phase)) t)
-gate y n (one Z q) s = phaseOn 4 (wire q s) s
-gate y n (one S q) s = phaseOn 2 (wire q s) s
-gate y n (one S† q) s = phaseOn 6 (wire q s) s
-gate y n (one T q) s = phaseOn 1 (wire q s) s
-gate y n (one T† q) s = phaseOn 7 (wire q s) s
-gate y n (one H q) s = hadamard (n + length (s .live)) q s
-gate y n (two CX a b) s = setWire b (wire b s ⊕ wire a s) s
-gate y n (two CZ a b) s = product (wire a s) (wire b s) s
-gate y n (two SWAP a b) s = setWire b (wire a s) (setWire a (wire b s) s)
+gateBy put y n (one Z q) s = phaseBy put 4 (wire q s) s
+gateBy put y n (one S q) s = phaseBy put 2 (wire q s) s
+gateBy put y n (one S† q) s = phaseBy put 6 (wire q s) s
+gateBy put y n (one T q) s = phaseBy put 1 (wire q s) s
+gateBy put y n (one T† q) s = phaseBy put 7 (wire q s) s
+gateBy put y n (one H q) s = hadamardBy put (n + length (s .live)) q s
+gateBy put y n (two CX a b) s = setWire b (wire b s ⊕ wire a s) s
+gateBy put y n (two CZ a b) s = productBy put (wire a s) (wire b s) s
+gateBy put y n (two SWAP a b) s = setWire b (wire a s) (setWire a (wire b s) s)
+
+-- that, with each phase merged at once
+abbrev pub gate : ℕ → ℕ → Gate → PathSum → PathSum
+gate y n g s = gateBy addPhase y n g s
 
 -- the gates in list order
 unfoldable pub gatesFrom : ℕ → ℕ → List Gate → PathSum → PathSum

@@ -6,18 +6,18 @@ use Prim.Native.Nat.{ℕ, _+_, _*_, _/_, _%_, _≤_}
 use native.Mathlib.Nat.{zero-add, add-mul, mul-right-comm, div-add-mod'}
 use native.Mathlib.Omega.{arith}
 use mathlib.Core.Bool.{Bool, true, false, cond}
-use mathlib.Core.List.{List, [], _∷_, _++_, map, append-nil, append-assoc}
+use mathlib.Core.List.{List, [], _∷_, _++_, map}
 use lib.Dec.{eqb}
 use borrow.Author.Tests.{eqb-true, eqb-false, ne-eqb}
 use Rattle.record_format.specs.Gate.{Gate, one, two, X, Y, Z, S, S†, T, T†, H, CX, CZ, SWAP}
 use Rattle.amplitude.specs.Bits.{digit}
-use Rattle.phase_sum_meaning.specs.Parity.{Parity, of}
+use Rattle.phase_sum_meaning.specs.Parity.{Parity, of, complement}
 use Rattle.phase_sum_meaning.specs.Phase.{Term, Phase, minus, keep, merge, rebuild, addTerm, addConstant, addPhase}
 use Rattle.phase_sum_meaning.specs.Phase.{CanonicalAbove, Canonical}
-use Rattle.phase_sum_meaning.specs.Building.{PathSum, setWire, withPhase, hadamard, initial, gate, gatesFrom, build}
+use Rattle.phase_sum_meaning.specs.Building.{PathSum, wire, setWire, withPhase, hadamardBy, initial, gateBy, gate, gatesFrom, build}
 use Rattle.phase_sum_terms.specs.Workspace.{setsOf, coeffsOf, merged}
-use Rattle.phase_sum_terms.specs.Unmerged.{phaseTerm, gateTerms, appendGate, appendGates}
-use Rattle.phase_sum_terms.specs.Inner.{total, sentTo, phaseConstant}
+use Rattle.phase_sum_terms.specs.Unmerged.{phaseTerm, putBehind, appendGate, appendGates}
+use Rattle.phase_sum_terms.specs.Inner.{total, sentTo}
 use Rattle.phase_sum_meaning.proofs.PhaseLaws.{keep-cases, merge-cases}
 use Rattle.phase_sum_meaning.proofs.CanonicalLaws.{canonical-rebuild, coeffOf, coeffOf-above, coeffOf-merge, canonical-unique}
 
@@ -70,11 +70,11 @@ added t ts = cond (eqb (t .set) 0) ts (merge (t .set) (t .coeff) ts)
 
 -- a phase c on a parity, by its parts: the constant changes and the term is merged in
 abbrev phased : ℕ → Parity → Phase → Phase
-phased c p φ = record { constant = phaseConstant c p (φ .constant); terms = added (phaseTerm c p) (φ .terms) }
+phased c p φ = record { constant = putBehind c p φ .constant; terms = added (phaseTerm c p) (φ .terms) }
 
 -- adding a phase on a parity is that
 addPhase-parts : (c : ℕ) (p : Parity) (φ : Phase) → addPhase c p φ ≡ phased c p φ
-unfolding addPhase addTerm addConstant phaseTerm added
+unfolding addPhase addTerm addConstant phaseTerm putBehind added
 addPhase-parts c p φ = go (p .flipped) refl
   where
     go : (b : Bool) → p .flipped ≡ b → addPhase c p φ ≡ phased c p φ
@@ -95,28 +95,24 @@ rebuild-merged f k (t ∷ ts) =
     ∙ (ap (added (sentTo f t)) (rebuild-merged f k ts) ∙ sym (merged-cons (sentTo f t) (map (sentTo f) ts)))
 
 -- phases on parities change the constant in either order
-phaseConstant-swap :
-    (c d : ℕ) (p q : Parity) (k : ℕ) → phaseConstant c p (phaseConstant d q k) ≡ phaseConstant d q (phaseConstant c p k)
-phaseConstant-swap c d p q k = go (p .flipped) (q .flipped)
-  where
-    go :
-        (a b : Bool) →
-        cond a ((cond b ((k + d) % 8) k + c) % 8) (cond b ((k + d) % 8) k)
-        ≡ cond b ((cond a ((k + c) % 8) k + d) % 8) (cond a ((k + c) % 8) k)
-    go true true = omega arith
-    go true false = refl
-    go false b = refl
+constant-swap :
+    (a b : Bool) (c d k : ℕ) →
+    cond a ((cond b ((k + d) % 8) k + c) % 8) (cond b ((k + d) % 8) k)
+    ≡ cond b ((cond a ((k + c) % 8) k + d) % 8) (cond a ((k + c) % 8) k)
+constant-swap true true c d k = omega arith
+constant-swap true false c d k = refl
+constant-swap false b c d k = refl
 
 -- the constant of a rebuilt phase, one term more at the end
 pub rebuild-constant :
     (f : ℕ → Parity) (k : ℕ) (ts : List Term) (t : Term) →
     rebuild f k (ts ++ t ∷ []) .constant
     ≡ cond (f (t .set) .flipped) ((rebuild f k ts .constant + t .coeff) % 8) (rebuild f k ts .constant)
-unfolding rebuild
+unfolding rebuild putBehind
 rebuild-constant f k [] t = rw addPhase-parts
 rebuild-constant f k (u ∷ ts) t =
     simp (addPhase-parts, rebuild-constant f k ts t)
-    (phaseConstant-swap (u .coeff) (t .coeff) (f (u .set)) (f (t .set)) (rebuild f k ts .constant))
+    (constant-swap (f (u .set) .flipped) (f (t .set) .flipped) (u .coeff) (t .coeff) (rebuild f k ts .constant))
 
 -- a multiple of a remainder mod 8 is that of the number, mod 8
 mod-times : (c w n : ℕ) → (c % 8 * w + n) % 8 ≡ (c * w + n) % 8
@@ -195,7 +191,7 @@ total-sent f u (t ∷ ts) = go (eqb u (f (t .set) .vars)) (f (t .set) .flipped) 
 constant-sent :
     (f : ℕ → Parity) (k : ℕ) (ts : List Term) →
     rebuild f k ts .constant ≡ (k + weighed (λ s. digit (f s .flipped)) ts) % 8
-unfolding rebuild weighed
+unfolding rebuild weighed putBehind
 constant-sent f k [] = omega arith
 constant-sent f k (t ∷ ts) = rw addPhase-parts (go (f (t .set) .flipped) _ _ (constant-sent f k ts))
   where
@@ -244,37 +240,34 @@ merged-last ts t = merged-same (ts ++ t ∷ []) (t ∷ ts) (λ u ne. go u) ∙ m
         total u (setsOf (ts ++ t ∷ [])) (coeffsOf (ts ++ t ∷ [])) % 8 ≡ total u (setsOf (t ∷ ts)) (coeffsOf (t ∷ ts)) % 8
     go u = omega (arith, total-append u ts (t ∷ []), total-append u (t ∷ []) ts)
 
--- the terms with others merged in one after the other
-unfoldable addedAll : List Term → List Term → List Term
-addedAll [] ts = ts
-addedAll (u ∷ us) ts = addedAll us (added u ts)
+-- a phase with its terms merged
+abbrev mergedPhase : Phase → Phase
+mergedPhase φ = record { constant = φ .constant; terms = merged (φ .terms) }
 
--- merging terms that stand behind others merges them in
-merged-append : (ts us : List Term) → merged (ts ++ us) ≡ addedAll us (merged ts)
-unfolding addedAll
-merged-append ts [] = ap (λ (l : List Term). merged l) (append-nil ts)
-merged-append ts (u ∷ us) =
-    ap (λ (l : List Term). merged l) (sym (append-assoc ts (u ∷ []) us))
-    ∙ (merged-append (ts ++ u ∷ []) us ∙ ap (addedAll us) (merged-last ts u))
+-- a phase put behind the others, then merged, is that phase added to the merged ones
+merged-put : (c : ℕ) (p : Parity) (φ : Phase) → mergedPhase (putBehind c p φ) ≡ addPhase c p (mergedPhase φ)
+unfolding putBehind
+merged-put c p φ = rw (addPhase-parts, merged-last)
 
 -- a sum with its terms merged
 abbrev pub mergedSum : PathSum → PathSum
-mergedSum s = withPhase (record { constant = s .phase .constant; terms = merged (s .phase .terms) }) s
+mergedSum s = withPhase (mergedPhase (s .phase)) s
 
 -- a gate with its terms behind the others, then merged, is the gate on the merged sum
 merged-gate : (n : ℕ) (g : Gate) (s : PathSum) → mergedSum (appendGate n g s) ≡ gate 2 n g (mergedSum s)
-unfolding appendGate gateTerms gate withPhase setWire hadamard addConstant addedAll
-merged-gate n (one X q) s = simp merged-append
-merged-gate n (one Y q) s = simp (merged-append, addPhase-parts)
-merged-gate n (one Z q) s = simp (merged-append, addPhase-parts)
-merged-gate n (one S q) s = simp (merged-append, addPhase-parts)
-merged-gate n (one S† q) s = simp (merged-append, addPhase-parts)
-merged-gate n (one T q) s = simp (merged-append, addPhase-parts)
-merged-gate n (one T† q) s = simp (merged-append, addPhase-parts)
-merged-gate n (one H q) s = simp (merged-append, addPhase-parts)
-merged-gate n (two CX a b) s = simp merged-append
-merged-gate n (two CZ a b) s = simp (merged-append, addPhase-parts)
-merged-gate n (two SWAP a b) s = simp merged-append
+unfolding gateBy withPhase setWire hadamardBy addConstant
+merged-gate n (one X q) s = refl
+merged-gate n (one Y q) s =
+    ap (λ (φ : Phase). setWire q (complement (wire q s)) (withPhase (addConstant 2 φ) s)) (merged-put 4 (wire q s) (s .phase))
+merged-gate n (one Z q) s = simp merged-put
+merged-gate n (one S q) s = simp merged-put
+merged-gate n (one S† q) s = simp merged-put
+merged-gate n (one T q) s = simp merged-put
+merged-gate n (one T† q) s = simp merged-put
+merged-gate n (one H q) s = simp merged-put
+merged-gate n (two CX a b) s = refl
+merged-gate n (two CZ a b) s = simp merged-put
+merged-gate n (two SWAP a b) s = refl
 
 -- gates with their terms one behind the other, merged at the end, are the gates merged one by one
 pub merged-gates : (n : ℕ) (gs : List Gate) (s : PathSum) → mergedSum (appendGates n gs s) ≡ gatesFrom 2 n gs (mergedSum s)

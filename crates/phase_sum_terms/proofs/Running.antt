@@ -18,12 +18,12 @@ use Rattle.amplitude.specs.Circuit.{tally, isH, hGates}
 use Rattle.amplitude.proofs.Linear.{tally-append, hGates-inverse}
 use Rattle.phase_sum_meaning.specs.Sets.{single, from}
 use Rattle.phase_sum_meaning.specs.Parity.{Parity, of, _⊕_, complement}
-use Rattle.phase_sum_meaning.specs.Phase.{Term, Phase as Polynomial, minus, addConstant, addTerm, addPhase}
-use Rattle.phase_sum_meaning.specs.Building.{PathSum, initial, wire, setWire, withPhase, hadamard, gate, build}
+use Rattle.phase_sum_meaning.specs.Phase.{Term, Phase as Polynomial, addConstant}
+use Rattle.phase_sum_meaning.specs.Building.{PathSum, initial, wire, setWire, withPhase, productBy, hadamardBy, gateBy, build}
 use Rattle.phase_sum_meaning.specs.Room.{roomFor, room, mostVariables}
-use Rattle.phase_sum_terms.specs.Workspace.{setOf, held, setsOf, coeffsOf, over, Stored, merged, parityOf, zipWires, Lent, slices, wiresIn, members}
-use Rattle.phase_sum_terms.specs.Unmerged.{gatesIn, phaseTerm, productTerms, gateTerms, appendGate, appendGates, sumIn, Runnable, Leaves, movesOnly, Moves, placesTaken, Builds, Buildable}
-use Rattle.phase_sum_terms.specs.Inner.{phaseConstant, productConstant, appendPhase, onH}
+use Rattle.phase_sum_terms.specs.Workspace.{setOf, held, setsOf, coeffsOf, over, Stored, merged, Phased, alone, parityOf, zipWires, Lent, slices, wiresIn, members}
+use Rattle.phase_sum_terms.specs.Unmerged.{gatesIn, putBehind, appendGate, appendGates, sumIn, Runnable, Leaves, movesOnly, Moves, placesTaken, Builds, Buildable}
+use Rattle.phase_sum_terms.specs.Inner.{appendPhase, onH}
 use Rattle.phase_sum_terms.specs.declared.sets.Set.{Set}
 use Rattle.phase_sum_terms.specs.declared.Phase.{Phase}
 use Rattle.phase_sum_terms.specs.declared.Parity.{Parity as ParityWord}
@@ -34,26 +34,6 @@ use Rattle.phase_sum_meaning.proofs.PhaseLaws.{length-rebuild}
 use Rattle.phase_sum_meaning.proofs.Roominess.{tally-inverse-room}
 use Rattle.phase_sum_meaning.proofs.VariableLaws.{from-length}
 use Rattle.phase_sum_meaning.proofs.Wellformed.{live-gates}
-
--- the constant after a phase on a parity, merged or not
-phase-constant : (c : ℕ) (p : Parity) (φ : Polynomial) → phaseConstant c p (φ .constant) ≡ addPhase c p φ .constant
-unfolding addPhase
-phase-constant c p φ = go (p .flipped)
-  where
-    go :
-        (b : Bool) →
-        cond b ((φ .constant + c) % 8) (φ .constant)
-        ≡ cond b (addTerm (p .vars) (minus c) (addConstant c φ)) (addTerm (p .vars) c φ) .constant
-    go true = unfold addTerm addConstant in refl
-    go false = unfold addTerm in refl
-
--- the constant after 4 on a product of two parities
-product-constant :
-    (u v : Parity) (φ : Polynomial) →
-    productConstant u v (φ .constant) ≡ addPhase 6 (u ⊕ v) (addPhase 2 v (addPhase 2 u φ)) .constant
-product-constant u v φ =
-    ap (phaseConstant 6 (u ⊕ v)) (ap (phaseConstant 2 v) (phase-constant 2 u φ) ∙ phase-constant 2 v (addPhase 2 u φ))
-    ∙ phase-constant 6 (u ⊕ v) (addPhase 2 v (addPhase 2 u φ))
 
 -- the four slices are as long as they were
 pub record AsLong (l l′ : Lent) : Type 0 where
@@ -72,10 +52,9 @@ long-after a b =
       coeffs = b .coeffs ∙ a .coeffs;
     }
 
--- terms put behind those of a sum under construction
-abbrev Added : List Term → Run → Phase → Lent → List ℕ → List ℕ → Type 0
-Added ts s p l ss′ cs′ =
-    Stored (s .phase .count) (held (s .phase .count) (l .sets) (l .coeffs) ++ ts) (p .count) (l .sets) (l .coeffs) ss′ cs′
+-- the phase that was left in the workspaces of a sum under construction
+abbrev Put : Polynomial → Run → Phase → Lent → List ℕ → List ℕ → Type 0
+Put φ s p l ss′ cs′ = Phased φ (s .phase .count) p (l .sets) (l .coeffs) ss′ cs′
 
 -- the next variable stands behind the live ones
 next-behind : (n next : ℕ) → n ≤ next → next ≡ n + length (from n (next - n))
@@ -86,17 +65,17 @@ pub diagonal-leaves :
     (s : Run) (c q : ℕ) (l : Lent) (w : ParityWord) (p : Phase) {ss′ cs′ : List ℕ} →
     length (l .wires) ≤ s .next →
     parityOf w ≡ wire q (sumIn s l) →
-    p .constant ≡ phaseConstant c (parityOf w) (s .phase .constant) →
-    Added (phaseTerm c (parityOf w) ∷ []) s p l ss′ cs′ →
+    Put (putBehind c (parityOf w) (sumIn s l .phase)) s p l ss′ cs′ →
     Leaves (appendPhase c q (sumIn s l)) (s .phase .count) (record { next = s .next; phase = p }) l
     (slices (l .wires) (l .flips) ss′ cs′)
-unfolding appendPhase
-diagonal-leaves s c q l w p started e constant terms =
+unfolding withPhase
+diagonal-leaves s c q l w p started e put =
+    let φ = rw e at put in
     record {
       next = next-behind (length (l .wires)) (s .next) started;
-      constant = (rw e at constant) ∙ phase-constant c (wire q (sumIn s l)) (sumIn s l .phase);
+      constant = φ .constant;
       wires = refl;
-      terms = rw e at terms;
+      terms = φ .terms;
     }
 
 -- what Y leaves
@@ -104,22 +83,20 @@ pub y-leaves :
     (s : Run) (q : ℕ) (l : Lent) (fs′ : List Bool) (w : ParityWord) (p : Phase) (k : ℕ) {ss′ cs′ : List ℕ} →
     length (l .wires) ≤ s .next →
     parityOf w ≡ wire q (sumIn s l) →
-    p .constant ≡ phaseConstant 4 (parityOf w) (s .phase .constant) →
-    Added (phaseTerm 4 (parityOf w) ∷ []) s p l ss′ cs′ →
+    Put (putBehind 4 (parityOf w) (sumIn s l .phase)) s p l ss′ cs′ →
     zipWires (l .wires) fs′ ≡ set (wiresIn l) q (complement (wire q (sumIn s l))) →
     k ≡ (p .constant + 2) % 8 →
     Leaves (appendGate (length (l .wires)) (one Y q) (sumIn s l)) (s .phase .count)
     (record { next = s .next; phase = record { constant = k; count = p .count } }) l
     (slices (l .wires) fs′ ss′ cs′)
-unfolding appendGate gate gateTerms setWire withPhase addConstant
-y-leaves s q l fs′ w p k started e constant terms wires turned =
+unfolding gateBy setWire withPhase addConstant
+y-leaves s q l fs′ w p k started e put wires turned =
+    let φ = rw e at put in
     record {
       next = next-behind (length (l .wires)) (s .next) started;
-      constant =
-          turned
-          ∙ ap (λ (m : ℕ). (m + 2) % 8) ((rw e at constant) ∙ phase-constant 4 (wire q (sumIn s l)) (sumIn s l .phase));
+      constant = turned ∙ ap (λ (m : ℕ). (m + 2) % 8) (φ .constant);
       wires = wires;
-      terms = rw e at terms;
+      terms = φ .terms;
     }
 
 -- what H leaves
@@ -129,21 +106,21 @@ pub hadamard-leaves :
     next ≡ s .next + 1 →
     parityOf u ≡ wire q (sumIn s l) →
     parityOf v ≡ of (single (s .next)) →
-    p .constant ≡ productConstant (parityOf u) (parityOf v) (s .phase .constant) →
-    Added (productTerms (parityOf u) (parityOf v)) s p l ss′ cs′ →
+    Put (productBy putBehind (parityOf u) (parityOf v) (alone (sumIn s l .phase)) .phase) s p l ss′ cs′ →
     zipWires ws′ fs′ ≡ set (wiresIn l) q (parityOf v) →
     Leaves (appendGate (length (l .wires)) (onH q) (sumIn s l)) (s .phase .count) (record { next = next; phase = p }) l
     (slices ws′ fs′ ss′ cs′)
-unfolding appendGate gate gateTerms hadamard withPhase
-hadamard-leaves s q l ws′ fs′ u v p next started more e f constant terms wires =
+unfolding gateBy hadamardBy withPhase
+hadamard-leaves s q l ws′ fs′ u v p next started more e f put wires =
     let n = length (l .wires) in
     let new = next-behind n (s .next) started in
     let f′ : parityOf v ≡ of (single (n + length (from n (s .next - n)))) = f ∙ ap (λ (m : ℕ). of (single m)) new in
+    let φ = rw (e, f′) at put in
     record {
       next = simp length-append (omega arith);
-      constant = (rw (e, f′) at constant) ∙ product-constant _ _ (sumIn s l .phase);
+      constant = φ .constant;
       wires = rw f′ at wires;
-      terms = rw (e, f′) at terms;
+      terms = φ .terms;
     }
 
 -- what CZ leaves
@@ -152,17 +129,17 @@ pub controlled-z-leaves :
     length (l .wires) ≤ s .next →
     parityOf u ≡ wire a (sumIn s l) →
     parityOf v ≡ wire b (sumIn s l) →
-    p .constant ≡ productConstant (parityOf u) (parityOf v) (s .phase .constant) →
-    Added (productTerms (parityOf u) (parityOf v)) s p l ss′ cs′ →
+    Put (productBy putBehind (parityOf u) (parityOf v) (alone (sumIn s l .phase)) .phase) s p l ss′ cs′ →
     Leaves (appendGate (length (l .wires)) (two CZ a b) (sumIn s l)) (s .phase .count) (record { next = s .next; phase = p }) l
     (slices (l .wires) (l .flips) ss′ cs′)
-unfolding appendGate gate gateTerms withPhase
-controlled-z-leaves s a b l u v p started e f constant terms =
+unfolding gateBy withPhase
+controlled-z-leaves s a b l u v p started e f put =
+    let φ = rw (e, f) at put in
     record {
       next = next-behind (length (l .wires)) (s .next) started;
-      constant = (rw (e, f) at constant) ∙ product-constant _ _ (sumIn s l .phase);
+      constant = φ .constant;
       wires = refl;
-      terms = rw (e, f) at terms;
+      terms = φ .terms;
     }
 
 -- three bytes of kind 1
@@ -266,25 +243,25 @@ kind-diagonal (suc (suc (suc (suc (suc (suc (suc (suc (suc (suc k)))))))))) a b 
 
 -- X moves wires
 pub x-moves : (q : ℕ) (ws : List Parity) → Moves (one X q) ws (set ws q (complement (getD ws q (of 0))))
-unfolding appendGate gate gateTerms setWire
-x-moves q ws n s e = rw (append-nil, ← e)
+unfolding gateBy setWire
+x-moves q ws n s e = rw (← e)
 
 -- and in this way
 pub x-moved :
     (q : ℕ) (ws ws′ : List Parity) → Moves (one X q) ws ws′ → ws′ ≡ set ws q (complement (getD ws q (of 0)))
-unfolding appendGate gate setWire
+unfolding gateBy setWire
 x-moved q ws ws′ moves =
     sym (ap (λ (t : PathSum). t .wires) (moves 0 (record { phase = record { constant = 0; terms = [] }; wires = ws; live = [] }) refl))
 
 -- so does CX
 pub cx-moves : (a b : ℕ) (ws : List Parity) → Moves (two CX a b) ws (set ws b (getD ws b (of 0) ⊕ getD ws a (of 0)))
-unfolding appendGate gate gateTerms setWire
-cx-moves a b ws n s e = rw (append-nil, ← e)
+unfolding gateBy setWire
+cx-moves a b ws n s e = rw (← e)
 
 -- so does SWAP
 pub swap-moves : (a b : ℕ) (ws : List Parity) → Moves (two SWAP a b) ws (set (set ws a (getD ws b (of 0))) b (getD ws a (of 0)))
-unfolding appendGate gate gateTerms setWire
-swap-moves a b ws n s e = rw (append-nil, ← e)
+unfolding gateBy setWire
+swap-moves a b ws n s e = rw (← e)
 
 -- what a gate that only moves wires leaves
 pub moves-leaves :
@@ -343,20 +320,23 @@ unfolding appendGates
 append-gates n [] hs s = refl
 append-gates n (g ∷ gs) hs s = append-gates n gs hs (appendGate n g s)
 
--- a gate's terms are at most its room
-terms-gate : (n : ℕ) (g : Gate) (s : PathSum) → length (gateTerms n g s) ≤ roomFor g
-unfolding gateTerms roomFor
-terms-gate n (one X q) s = omega arith
-terms-gate n (one Y q) s = omega arith
-terms-gate n (one Z q) s = omega arith
-terms-gate n (one S q) s = omega arith
-terms-gate n (one S† q) s = omega arith
-terms-gate n (one T q) s = omega arith
-terms-gate n (one T† q) s = omega arith
-terms-gate n (one H q) s = omega arith
-terms-gate n (two CX a b) s = omega arith
-terms-gate n (two CZ a b) s = omega arith
-terms-gate n (two SWAP a b) s = omega arith
+-- a gate adds terms, at most its room
+terms-gate :
+    (n : ℕ) (g : Gate) (s : PathSum) →
+    (length (s .phase .terms) ≤ length (appendGate n g s .phase .terms))
+    × (length (appendGate n g s .phase .terms) ≤ length (s .phase .terms) + roomFor g)
+unfolding gateBy setWire withPhase hadamardBy addConstant putBehind roomFor
+terms-gate n (one X q) s = (omega arith, omega arith)
+terms-gate n (one Y q) s = simp length-append (omega arith, omega arith)
+terms-gate n (one Z q) s = simp length-append (omega arith, omega arith)
+terms-gate n (one S q) s = simp length-append (omega arith, omega arith)
+terms-gate n (one S† q) s = simp length-append (omega arith, omega arith)
+terms-gate n (one T q) s = simp length-append (omega arith, omega arith)
+terms-gate n (one T† q) s = simp length-append (omega arith, omega arith)
+terms-gate n (one H q) s = simp length-append (omega arith, omega arith)
+terms-gate n (two CX a b) s = (omega arith, omega arith)
+terms-gate n (two CZ a b) s = simp length-append (omega arith, omega arith)
+terms-gate n (two SWAP a b) s = (omega arith, omega arith)
 
 -- gates within n are so in two parts
 within-parts : (n : ℕ) (gs hs : List Gate) → AllWithin n (gs ++ hs) → AllWithin n gs × AllWithin n hs
@@ -372,10 +352,8 @@ unfolding appendGates tally
 terms-gates n [] s = (omega arith, omega arith)
 terms-gates n (g ∷ gs) s =
     let later = terms-gates n gs (appendGate n g s) in
-    let more : length (appendGate n g s .phase .terms) ≡ length (s .phase .terms) + length (gateTerms n g s) =
-    unfold appendGate in length-append (s .phase .terms) (gateTerms n g s)
-    in
-    (omega arith, omega (arith, terms-gate n g s))
+    let first = terms-gate n g s in
+    (omega arith, omega arith)
 
 -- gates bring as many live variables as they have H gates
 live-appended : (n k : ℕ) (gs : List Gate) (s : PathSum) → s .live ≡ from n k → appendGates n gs s .live ≡ from n (k + hGates gs)

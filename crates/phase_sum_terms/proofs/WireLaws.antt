@@ -7,18 +7,18 @@ use native.Mathlib.Nat.{le-of-suc-le-suc, zero-add}
 use native.Mathlib.Numerals.{add-one}
 use native.Mathlib.Omega.{arith}
 use mathlib.Core.Bool.{Bool, false, not}
-use mathlib.Core.List.{List, [], _∷_, _++_, map, append-assoc, map-append}
+use mathlib.Core.List.{List, [], _∷_, _++_, map, map-append}
 use lib.ListN.{length, getD, set, take, replicate, length-append, replicate-append-replicate}
 use lib.Seq.{take-all, take-suc-set}
 use Rattle.amplitude.proofs.BitLaws.{bit-zero}
 use Rattle.amplitude.proofs.XorLaws.{xor-trueˡ}
 use Rattle.phase_sum_meaning.specs.Sets.{single, from}
 use Rattle.phase_sum_meaning.specs.Parity.{Parity, of, _⊕_, complement}
-use Rattle.phase_sum_meaning.specs.Phase.{Term}
+use Rattle.phase_sum_meaning.specs.Phase.{Term, Phase as Polynomial}
 use Rattle.phase_sum_meaning.specs.Building.{input, initial}
-use Rattle.phase_sum_terms.specs.Workspace.{held, zipWires, Stored}
-use Rattle.phase_sum_terms.specs.Unmerged.{phaseTerm, productTerms}
-use Rattle.phase_sum_terms.specs.Inner.{phaseConstant, productConstant}
+use Rattle.phase_sum_terms.specs.Workspace.{held, zipWires, Stored, phaseOf, Phased}
+use Rattle.phase_sum_terms.specs.Unmerged.{putBehind}
+use Rattle.phase_sum_terms.specs.declared.Phase.{Phase}
 use Rattle.phase_sum_meaning.proofs.VariableLaws.{from-snoc}
 use Rattle.phase_sum_terms.proofs.Storing.{stored-held, stored-grown, length-held}
 
@@ -89,15 +89,6 @@ unfolding initial
 inputs-all n ws fs i j e f =
     rw (← take-all n ws (omega (arith, i)), ← take-all n fs (omega (arith, j)), e, f) (zip-inputs 0 n)
 
--- terms stored, and then more behind them
-stored-more :
-    {m r q : ℕ} {ts : List Term} {ss cs ss₁ cs₁ ss₂ cs₂ : List ℕ} (us : List Term) →
-    Stored m ts r ss cs ss₁ cs₁ →
-    Stored r (held r ss₁ cs₁ ++ us) q ss₁ cs₁ ss₂ cs₂ →
-    Stored m (ts ++ us) q ss cs ss₂ cs₂
-stored-more {ts = ts} us e f =
-    stored-grown e (rw (stored-held e) at f) (rw (length-append ts us) (omega arith))
-
 -- how many terms there are when more are behind the first m
 pub stored-count :
     {m r : ℕ} {ss cs ss₁ cs₁ : List ℕ} (us : List Term) →
@@ -108,23 +99,16 @@ pub stored-count :
 stored-count {m = m} {ss = ss} {cs = cs} us l k e =
     e .counted ∙ rw (length-append (held m ss cs) us, length-held m ss cs l k)
 
--- the terms of 4 on a product, put one by one
-pub stored-product :
-    {m r q p : ℕ} {ss cs ss₁ cs₁ ss₂ cs₂ ss₃ cs₃ : List ℕ} (u v w : Parity) →
-    w ≡ u ⊕ v →
-    Stored m (held m ss cs ++ phaseTerm 2 u ∷ []) r ss cs ss₁ cs₁ →
-    Stored r (held r ss₁ cs₁ ++ phaseTerm 2 v ∷ []) q ss₁ cs₁ ss₂ cs₂ →
-    Stored q (held q ss₂ cs₂ ++ phaseTerm 6 w ∷ []) p ss₂ cs₂ ss₃ cs₃ →
-    Stored m (held m ss cs ++ productTerms u v) p ss cs ss₃ cs₃
-stored-product u v w is e f g =
-    rw is at (simp append-assoc at (stored-more (phaseTerm 6 w ∷ []) (stored-more (phaseTerm 2 v ∷ []) e f) g))
-
--- the constant of 4 on a product, phase by phase
-pub product-constant :
-    (u v w : Parity) (k k₁ k₂ k₃ : ℕ) →
-    w ≡ u ⊕ v →
-    k₁ ≡ phaseConstant 2 u k →
-    k₂ ≡ phaseConstant 2 v k₁ →
-    k₃ ≡ phaseConstant 6 w k₂ →
-    k₃ ≡ productConstant u v k
-product-constant u v w k k₁ k₂ k₃ is e f g = g ∙ rw (is, f, e)
+-- a phase left, and then one more put behind it
+pub put-more :
+    {φ : Polynomial} {m : ℕ} {p q : Phase} {ss cs ss₁ cs₁ ss₂ cs₂ : List ℕ} (c : ℕ) (w : Parity) →
+    Phased φ m p ss cs ss₁ cs₁ →
+    Phased (putBehind c w (phaseOf p ss₁ cs₁)) (p .count) q ss₁ cs₁ ss₂ cs₂ →
+    Phased (putBehind c w φ) m q ss cs ss₂ cs₂
+unfolding putBehind
+put-more c w e f =
+    let g = rw (e .constant, stored-held (e .terms)) at f in
+    record {
+      constant = g .constant;
+      terms = stored-grown (e .terms) (g .terms) (rw length-append (omega arith));
+    }

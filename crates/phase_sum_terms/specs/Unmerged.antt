@@ -7,13 +7,13 @@ use mathlib.Core.Bool.{Bool, cond}
 use mathlib.Core.List.{List, [], _∷_, _++_, map}
 use lib.ListN.{length}
 use lib.Dec.{eqb}
-use Rattle.record_format.specs.Gate.{Gate, one, two, X, Y, Z, S, S†, T, T†, H, CX, CZ, SWAP, AllWithin, gateOf, inverseList}
+use Rattle.record_format.specs.Gate.{Gate, AllWithin, gateOf, inverseList}
 use Rattle.record_format.specs.Reading.{raws}
 use Rattle.amplitude.specs.Circuit.{tally, hGates}
-use Rattle.phase_sum_meaning.specs.Sets.{single, from}
-use Rattle.phase_sum_meaning.specs.Parity.{Parity, of, _⊕_}
+use Rattle.phase_sum_meaning.specs.Sets.{from}
+use Rattle.phase_sum_meaning.specs.Parity.{Parity}
 use Rattle.phase_sum_meaning.specs.Phase.{Term, term, minus}
-use Rattle.phase_sum_meaning.specs.Building.{PathSum, initial, wire, gate, build}
+use Rattle.phase_sum_meaning.specs.Building.{PathSum, Putting, initial, gateBy, build}
 use Rattle.phase_sum_meaning.specs.Room.{roomFor, room, mostVariables}
 use Rattle.phase_sum_terms.specs.Workspace.{Stored, Lent, phaseOf, wiresIn, Became}
 use Rattle.phase_sum_terms.specs.declared.Run.{Run}
@@ -31,32 +31,17 @@ miterIn first second = gatesIn first ++ inverseList (gatesIn second)
 unfoldable pub phaseTerm : ℕ → Parity → Term
 phaseTerm c p = term (p .vars) (cond (p .flipped) (minus c) c)
 
--- the terms of 4 on a product of two parities
-abbrev pub productTerms : Parity → Parity → List Term
-productTerms u v = phaseTerm 2 u ∷ phaseTerm 2 v ∷ phaseTerm 6 (u ⊕ v) ∷ []
-
--- the terms that a gate adds
-unfoldable pub gateTerms : ℕ → Gate → PathSum → List Term
-gateTerms n (one X q) s = []
-gateTerms n (one Y q) s = phaseTerm 4 (wire q s) ∷ []
-gateTerms n (one Z q) s = phaseTerm 4 (wire q s) ∷ []
-gateTerms n (one S q) s = phaseTerm 2 (wire q s) ∷ []
-gateTerms n (one S† q) s = phaseTerm 6 (wire q s) ∷ []
-gateTerms n (one T q) s = phaseTerm 1 (wire q s) ∷ []
-gateTerms n (one T† q) s = phaseTerm 7 (wire q s) ∷ []
-gateTerms n (one H q) s = productTerms (wire q s) (of (single (n + length (s .live))))
-gateTerms n (two CX a b) s = []
-gateTerms n (two CZ a b) s = productTerms (wire a s) (wire b s)
-gateTerms n (two SWAP a b) s = []
+-- a phase on a parity put behind the other terms, unmerged: on a complemented parity the constant changes too
+unfoldable pub putBehind : Putting
+putBehind c p φ =
+    record {
+      constant = cond (p .flipped) ((φ .constant + c) % 8) (φ .constant);
+      terms = φ .terms ++ phaseTerm c p ∷ [];
+    }
 
 -- what one gate does, with its terms behind the others
-unfoldable pub appendGate : ℕ → Gate → PathSum → PathSum
-appendGate n g s =
-    record {
-      phase = record { constant = gate 2 n g s .phase .constant; terms = s .phase .terms ++ gateTerms n g s };
-      wires = gate 2 n g s .wires;
-      live = gate 2 n g s .live;
-    }
+abbrev pub appendGate : ℕ → Gate → PathSum → PathSum
+appendGate n g s = gateBy putBehind 2 n g s
 
 -- the gates in list order
 unfoldable pub appendGates : ℕ → List Gate → PathSum → PathSum

@@ -46,8 +46,7 @@ returns c =
     (pre .started)
     (at-wire .wire .ensures)
     (c .before .before .before .before .before .before .before .wire2 .ensures)
-    (phase .ensures .0)
-    (phase .ensures .1)
+    (phase .ensures)
 
 pub controlled-z-spec : {M : Type 1} → statement M
 controlled-z-spec =

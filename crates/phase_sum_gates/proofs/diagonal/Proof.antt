@@ -32,8 +32,7 @@ returns c =
     let a = at-start .args in
     let pre = at-start .pre in
     diagonal-leaves (a .run) (a .c) (a .q) (lent (a .ws) (a .fs) (a .sets) (a .coeffs)) (at-wire .wire .result)
-    (at-phase .put-phase .result) (pre .2) (at-wire .wire .ensures) (at-phase .put-phase .ensures .0)
-    (at-phase .put-phase .ensures .1)
+    (at-phase .put-phase .result) (pre .2) (at-wire .wire .ensures) (at-phase .put-phase .ensures)
 
 pub diagonal-spec : {M : Type 1} → statement M
 diagonal-spec =

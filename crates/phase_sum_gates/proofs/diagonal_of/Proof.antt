@@ -4,30 +4,28 @@ use mathlib.Core.Path.{_≡_, refl}
 use Prim.Native.Nat.{ℕ, _<_}
 use native.Mathlib.Omega.{arith}
 use Rattle.record_format.specs.Gate.{gateOf}
-use Rattle.phase_sum_meaning.specs.Building.{gate, withPhase}
-use Rattle.phase_sum_terms.specs.Unmerged.{gateTerms, appendGate}
-use Rattle.phase_sum_terms.specs.Inner.{appendPhase}
+use Rattle.phase_sum_meaning.specs.Building.{gateBy}
 use Rattle.phase_sum_gates.proofs.diagonal_of.Statement.{statement}
 use Rattle.phase_sum_gates.proofs.diagonal_of.Tie as tie
 
 returns : tie.Need-returns
-unfolding gateOf gate withPhase gateTerms appendGate appendPhase
+unfolding gateOf gateBy
 returns c n a b s = rw (c .match .keys1)
 
 returns-2 : tie.Need-returns-2
-unfolding gateOf gate withPhase gateTerms appendGate appendPhase
+unfolding gateOf gateBy
 returns-2 c n a b s = rw (c .match .keys2)
 
 returns-3 : tie.Need-returns-3
-unfolding gateOf gate withPhase gateTerms appendGate appendPhase
+unfolding gateOf gateBy
 returns-3 c n a b s = rw (c .match .keys3)
 
 returns-4 : tie.Need-returns-4
-unfolding gateOf gate withPhase gateTerms appendGate appendPhase
+unfolding gateOf gateBy
 returns-4 c n a b s = rw (c .match .keys4)
 
 returns-5 : tie.Need-returns-5
-unfolding gateOf gate withPhase gateTerms appendGate appendPhase
+unfolding gateOf gateBy
 returns-5 c n a b s =
     let r = c .match .rest in
     rw (last (c .before .args .kind) (c .before .pre .1) (c .before .pre .0) (r .0 .0 .0 .1) (r .0 .0 .1) (r .0 .1) (r .1))

@@ -64,8 +64,7 @@ returns c =
     refl
     (at-wire .wire .ensures)
     (ap of (c .before .before .before .before .before .before .before .before .before .before .before .before .before .before .before .before .before .single .ensures))
-    (phase .ensures .0)
-    (phase .ensures .1)
+    (phase .ensures)
     (at-set .set-wire .ensures)
 
 pub hadamard-spec : {M : Type 1} → statement M

@@ -2,7 +2,7 @@
 -- Assumes nothing.
 use mathlib.Core.Path.{refl}
 use borrow.Author.Needs.{needs}
-use Rattle.phase_sum_terms.specs.Unmerged.{phaseTerm}
+use Rattle.phase_sum_terms.specs.Unmerged.{phaseTerm, putBehind}
 use Rattle.phase_sum_gates.proofs.put_phase.Statement.{statement}
 use Rattle.phase_sum_gates.proofs.put_phase.Tie as tie
 
@@ -22,11 +22,12 @@ same-length-2 : tie.Need-same-length-2
 same-length-2 c = search needs
 
 returns : tie.Need-returns
-unfolding phaseTerm
+unfolding putBehind phaseTerm
 returns c =
     let appended = c .before .before .before .before in
     let added = appended .before .before .before .before in
-    rw (added .before .if1 .taken, ← appended .before .negate .ensures) (added .add .ensures, appended .append .ensures)
+    rw (added .before .if1 .taken, ← appended .before .negate .ensures)
+    (record { constant = added .add .ensures; terms = appended .append .ensures })
 
 append-requires-2 : tie.Need-append-requires-2
 append-requires-2 c κs = search needs
@@ -38,10 +39,11 @@ same-length-4 : tie.Need-same-length-4
 same-length-4 c = search needs
 
 returns-2 : tie.Need-returns-2
-unfolding phaseTerm
+unfolding putBehind phaseTerm
 returns-2 c =
     let appended = c .before .before .before .before in
-    rw (appended .before .before .before .if1 .left) (refl, appended .append2 .ensures)
+    rw (appended .before .before .before .if1 .left)
+    (record { constant = refl; terms = appended .append2 .ensures })
 
 pub put-phase-spec : {M : Type 1} → statement M
 put-phase-spec =

@@ -6,9 +6,10 @@ use native.Mathlib.Omega.{arith}
 use mathlib.Core.List.{[], _∷_}
 use lib.ListN.{length}
 use borrow.Author.Needs.{needs}
+use Rattle.phase_sum_meaning.specs.Building.{withPhase}
 use Rattle.phase_sum_terms.specs.Workspace.{parityOf}
-use Rattle.phase_sum_terms.specs.Unmerged.{phaseTerm}
-use Rattle.phase_sum_terms.proofs.WireLaws.{stored-count, stored-product, product-constant}
+use Rattle.phase_sum_terms.specs.Unmerged.{putBehind}
+use Rattle.phase_sum_terms.proofs.WireLaws.{stored-count, put-more}
 use Rattle.phase_sum_gates.proofs.put_product.Statement.{statement}
 use Rattle.phase_sum_gates.proofs.put_product.Tie as tie
 
@@ -17,10 +18,10 @@ room-left :
     (c : tie.After-put-phase) →
     (c .put-phase .result .count + 2 ≤ length (c .put-phase .last .1 .1 .1 .0))
     × (c .put-phase .result .count + 2 ≤ length (c .put-phase .last .1 .1 .1 .1 .0))
+unfolding putBehind
 room-left c =
     let p = c .put-phase in
-    let u = c .before .before .before .before .before .args .u in
-    let count = stored-count (phaseTerm 2 (parityOf u) ∷ []) (omega arith) (omega arith) (p .ensures .1) in
+    let count = stored-count (_ ∷ []) (omega arith) (omega arith) (p .ensures .terms) in
     (omega (arith, count, p .kept .1 .1 .1 .0), omega (arith, count, p .kept .1 .1 .1 .1 .0))
 
 put-phase-requires : tie.Need-put-phase-requires
@@ -35,12 +36,12 @@ both-requires : tie.Need-both-requires
 both-requires c κs = search needs
 
 put-phase-requires-3 : tie.Need-put-phase-requires-3
+unfolding putBehind
 put-phase-requires-3 c κs =
     let p = c .before .before .before .before .before .before .before .put-phase2 in
     let s = c .before .before .before .before .before .before .before .before .before .before .before .before .before .before in
     let left = room-left s in
-    let v = s .before .before .before .before .before .args .v in
-    let count = stored-count (phaseTerm 2 (parityOf v) ∷ []) (omega (arith, left .0)) (omega (arith, left .1)) (p .ensures .1) in
+    let count = stored-count (_ ∷ []) (omega (arith, left .0)) (omega (arith, left .1)) (p .ensures .terms) in
     (omega (arith, count, left .0, p .kept .1 .1 .1 .0), omega (arith, count, left .1, p .kept .1 .1 .1 .1 .0))
 
 same-length : tie.Need-same-length
@@ -50,21 +51,16 @@ same-length-2 : tie.Need-same-length-2
 same-length-2 c = search needs
 
 returns : tie.Need-returns
+unfolding withPhase
 returns c =
     let third = c .before .before .before .before in
     let sum = third .before .before .before .both in
     let second = third .before .before .before .before .before .before .before .before in
     let first = second .before .before .before .before .before .before .before in
-    let a = first .before .before .before .before .before .args in
-    let u = parityOf (a .u) in
-    let v = parityOf (a .v) in
-    let w = parityOf (sum .result) in (
-      product-constant u v w (a .phase .constant) (first .put-phase .result .constant) (second .put-phase2 .result .constant)
-          (third .put-phase3 .result .constant)
-          (sum .ensures) (first .put-phase .ensures .0) (second .put-phase2 .ensures .0) (third .put-phase3 .ensures .0),
-      stored-product u v w
-          (sum .ensures) (first .put-phase .ensures .1) (second .put-phase2 .ensures .1) (third .put-phase3 .ensures .1),
-    )
+    let v = parityOf (first .before .before .before .before .before .args .v) in
+    rw (← sum .ensures)
+    (put-more 6 (parityOf (sum .result)) (put-more 2 v (first .put-phase .ensures) (second .put-phase2 .ensures))
+    (third .put-phase3 .ensures))
 
 pub put-product-spec : {M : Type 1} → statement M
 put-product-spec =

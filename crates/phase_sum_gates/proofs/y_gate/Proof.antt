@@ -52,8 +52,7 @@ returns c =
     (c .add .result)
     (pre .started)
     (at-wire .wire .ensures)
-    (phase .ensures .0)
-    (phase .ensures .1)
+    (phase .ensures)
     (x-moved (a .q) _ _ (at-flip .flip-wire .ensures))
     (c .add .ensures)
 
