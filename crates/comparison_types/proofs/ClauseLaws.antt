@@ -4,12 +4,13 @@
 use mathlib.Core.Path.{_≡_, refl, sym, ap, _∙_}
 use mathlib.Core.Logic.{⊎-map}
 use Prim.Native.Nat.{ℕ, _+_, _*_, _≤_}
-use native.Mathlib.Nat.{sub-zero}
+use native.Mathlib.Nat.{sub-zero, le-refl}
 use native.Mathlib.Omega.{arith}
 use mathlib.Core.Bool.{Bool, true, false, _||_}
 use mathlib.Core.Option.{Option, none, some}
-use mathlib.Core.List.{List, [], _++_}
+use mathlib.Core.List.{List, [], _++_, append-nil}
 use lib.ListN.{length, take, drop, replicate}
+use lib.Seq.{length-take-le, drop-length}
 use lib.Dec.{ltb}
 use borrow.Author.Tests.{ltb-false}
 use Rattle.record_format.specs.Format.{headSize, gateSize}
@@ -24,7 +25,7 @@ use Rattle.phase_sum_meaning.specs.Building.{PathSum, initial, build}
 use Rattle.phase_sum_meaning.specs.Room.{roomFor, room, mostVariables, places}
 use Rattle.phase_sum_meaning.proofs.Wellformed.{live-build-from, live-build}
 use Rattle.phase_sum_meaning.proofs.Roominess.{room-build, tally-inverse-room}
-use Rattle.phase_sum_terms.specs.Workspace.{setOf, over, Stored, Lent, members, Sized}
+use Rattle.phase_sum_terms.specs.Workspace.{setOf, over, Lent, members, Sized}
 use Rattle.phase_sum_terms.specs.Unmerged.{gatesIn, Builds, Buildable}
 use Rattle.phase_sum_terms.specs.declared.Sum.{Sum}
 use Rattle.phase_sum_terms.proofs.Storing.{over-padded}
@@ -34,10 +35,10 @@ use Rattle.comparison_meaning.specs.Reduction.{pinned, reduceEnd}
 use Rattle.comparison_meaning.specs.Verdict as verdict
 use Rattle.comparison_meaning.specs.Verdict.{Result, equal, different, undecided, miter, judge, compare}
 use Rattle.comparison_meaning.specs.Demands.{Accepted, Demands, EqualIsRight, DifferentIsRight, ByTheSteps, InputsOnlyIfDifferent, CliffordIsDecided, CountsAddUp, StepsWithinHGates}
-use Rattle.comparison_meaning.proofs.Bytes.{demands-pair, room-fits-pair}
-use Rattle.comparison_types.specs.Call.{Said, says, refuses, numberOf, verdictOf, resultOf, saidOf, pairRows, workspaceRows, pairFault, compareRead, unlessFault, comparison, leftBy}
+use Rattle.comparison_meaning.proofs.Bytes.{demands-pair}
+use Rattle.comparison_types.specs.Call.{Said, says, refuses, numberOf, verdictOf, resultOf, saidOf, pairRows, workspaceRows, pairFault, compareRead, unlessFault, comparison}
 use Rattle.comparison_types.specs.Clauses.{ForResult, Sound, Stops, Inputs, Clifford, CountsUp}
-use Rattle.comparison_types.specs.Inner.{Kept, AcceptedWith, numberIn, pairNumber, PairRead}
+use Rattle.comparison_types.specs.Inner.{AcceptedWith, numberIn, pairNumber, PairRead}
 use Rattle.comparison_types.specs.declared.Verdict.{Verdict}
 use Rattle.comparison_types.specs.declared.Verdict.the-variants.{Equal, Different, Undecided}
 use Rattle.comparison_types.specs.declared.Outcome.{Outcome}
@@ -156,16 +157,14 @@ module _
     gates-second : gatesIn part′ ≡ pass .second .gates
     gates-second = rw is′ (gates-of (pass .second))
 
-    -- they can be built, and have room in the first places
-    pub pass-fits : Buildable n part part′ ss cs × (room (gatesIn part) (gatesIn part′) ≤ places)
+    -- they can be built in the first places
+    pub pass-fits : Buildable n part part′ (take places ss) (take places cs)
     pass-fits =
         let list = pass .first in
         let other = pass .second in
-        let pair : Accepted s t n (list .gates) (other .gates) = record { reads-first = list .reads; reads-second = other .reads } in
-        let built = buildable s t n (list .gates) (other .gates) ss cs (list .reads) (other .reads) in (
-          rw (is, is′, part-of list, part-of other) (built (pass .variables) (pass .sets) (pass .coeffs)),
-          rw (gates-first, gates-second) (room-fits-pair s t n (list .gates) (other .gates) pair (pass .variables)),
-        )
+        rw (is, is′, part-of list, part-of other)
+        (buildable s t n (list .gates) (other .gates) (take places ss) (take places cs) (list .reads) (other .reads) (pass .variables)
+        (rw (length-take-le places ss (pass .sets)) (le-refl places)) (rw (length-take-le places cs (pass .coeffs)) (le-refl places)))
 
     -- comparing them gives what is said of the pair
     pub pass-said : {o : Result} → o ≡ compare 0 n (gatesIn part) (gatesIn part′) → says o ≡ comparison s t (length ss) (length cs)
@@ -219,15 +218,6 @@ module _ (s t : List ℕ) (w c : ℕ) (a : Answer) (said : saidOf a ≡ comparis
     ),
   )
 
--- zeros over the first m places of a list that is another behind them
-zeros-over : (m : ℕ) (old new : List ℕ) → drop m new ≡ drop m old → over m [] new ≡ replicate m 0 ++ drop m old
-zeros-over m old new e = over-padded m [] new (omega arith) ∙ rw (sub-zero, e)
-
--- what a comparison leaves that changed nothing behind the first places and then cleared these
-pub cleared :
-    (o : Result) {ss cs ss₁ cs₁ ss₂ cs₂ : List ℕ} →
-    Kept ss cs ss₁ cs₁ →
-    Stored places [] 0 ss₁ cs₁ ss₂ cs₂ →
-    (ss₂ ≡ leftBy (says o) ss) × (cs₂ ≡ leftBy (says o) cs)
-cleared o {ss} {cs} {ss₁} {cs₁} kept stored =
-    (stored .sets ∙ zeros-over places ss ss₁ (kept .sets), stored .coeffs ∙ zeros-over places cs cs₁ (kept .coeffs))
+-- zeros over all the m places of a list
+pub zeros-all : (m : ℕ) (xs ys : List ℕ) → ys ≡ over m [] xs → length xs ≡ m → ys ≡ replicate m 0
+zeros-all m xs ys e same = e ∙ (over-padded m [] xs (omega arith) ∙ rw (sub-zero, ← same, drop-length, append-nil))

@@ -5,11 +5,10 @@ use Prim.Native.Nat.{ℕ, zero, suc, _+_, _≤_}
 use mathlib.Core.Bool.{Bool, true, false, cond}
 use mathlib.Core.Option.{Option, none, some}
 use mathlib.Core.List.{List}
-use lib.ListN.{length, drop}
+use lib.ListN.{length}
 use Rattle.record_format.specs.Gate.{Gate}
 use Rattle.record_format.specs.Row.{Fault}
 use Rattle.record_format.specs.Reading.{accepted, read}
-use Rattle.phase_sum_meaning.specs.Room.{places}
 use Rattle.phase_sum_meaning.specs.Parity.{Parity, rest}
 use Rattle.phase_sum_meaning.specs.Building.{PathSum}
 use Rattle.phase_sum_meaning.specs.Stepping.{replace, takeOut, turned, kindOf, sum, turn, constraint, constrained}
@@ -116,11 +115,6 @@ pub record ReducedTo (s : Sum) (c : Counts) (e : End) (l l′ : Lent) : Type 0 w
 pub record ReducesEnd (e r : End) (l l′ : Lent) : Type 0 where
   pub end : endOf r l′ ≡ reduction.reduceEnd (endOf e l)
   pub sized : Sized (r .sum) l′
-
--- the workspaces are as they were behind the first places
-pub record Kept (ss cs ss′ cs′ : List ℕ) : Type 0 where
-  pub sets : drop places ss′ ≡ drop places ss
-  pub coeffs : drop places cs′ ≡ drop places cs
 
 -- the input that a search answered; 0 is none
 unfoldable pub inputOf : ℕ → Option ℕ

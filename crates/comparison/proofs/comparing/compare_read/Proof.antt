@@ -1,14 +1,16 @@
 -- `comparison::comparing::compare_read` meets its contract. A pair that the checks turn down is refused with their number; deciding another
--- gives what comparing the records says, and the first places are cleared.
+-- gives what comparing the records says. Only the first places are lent on, so what is behind them stays.
 -- Assumes nothing.
 use borrow.Author.Needs.{needs}
-use native.Mathlib.Omega.{arith}
-use mathlib.Core.Path.{refl}
-use lib.ListN.{length}
-use denote.Ref.{now}
-use Rattle.comparison_types.specs.Call.{resultOf}
+use mathlib.Core.Path.{_≡_, refl, sym, _∙_}
+use mathlib.Core.List.{List}
+use Prim.Native.Nat.{ℕ}
+use lib.ListN.{length, take}
+use lib.Seq.{length-take-le}
+use denote.Ref.{RefT, now}
+use Rattle.phase_sum_meaning.specs.Room.{places}
 use Rattle.comparison_types.proofs.PairLaws.{whole-of}
-use Rattle.comparison_types.proofs.ClauseLaws.{Passed, pair-passes, pass-fits, pass-said, refusal-said, cleared}
+use Rattle.comparison_types.proofs.ClauseLaws.{Passed, pair-passes, pass-fits, pass-said, refusal-said}
 use Rattle.comparison.proofs.comparing.compare_read.Statement.{statement}
 use Rattle.comparison.proofs.comparing.compare_read.Tie as tie
 
@@ -22,6 +24,13 @@ passed c =
     let a = at-check .before .before .before .before .before .args in
     pair-passes (now (a .first)) (now (a .second)) (now (a .sets)) (now (a .coeffs)) (at-check .check-call .ensures .0)
     (at-check .check-call .ensures .1) (c .n .given .1)
+
+-- the workspaces as they were lent
+abbrev sets-of : (c : tie.After-n) → RefT (List ℕ)
+sets-of c = c .before .before .before .before .before .before .before .args .sets
+
+abbrev coeffs-of : (c : tie.After-n) → RefT (List ℕ)
+coeffs-of c = c .before .before .before .before .before .before .before .args .coeffs
 
 check-call-requires : tie.Need-check-call-requires
 check-call-requires c κs = search needs
@@ -38,20 +47,33 @@ gate-bytes-requires c κs = whole-of (passed (c .before) .first)
 gate-bytes-requires-2 : tie.Need-gate-bytes-requires-2
 gate-bytes-requires-2 c κs = whole-of (passed (c .before .before) .second)
 
+-- the lengths of the places that are lent on
+first-sets : (c : tie.After-n) → length (take places (now (sets-of c))) ≡ places
+first-sets c = length-take-le places (now (sets-of c)) (passed c .sets)
+
+first-coeffs : (c : tie.After-n) → length (take places (now (coeffs-of c))) ≡ places
+first-coeffs c = length-take-le places (now (coeffs-of c)) (passed c .coeffs)
+
+slice-relend-prefix-decide : tie.Need-slice-relend-prefix-decide
+slice-relend-prefix-decide c = passed (c .before .before .before) .sets
+
+slice-aggregate-decide : tie.Need-slice-aggregate-decide
+slice-aggregate-decide c = sym (first-sets (c .before .before .before .before))
+
+slice-relend-prefix-decide-2 : tie.Need-slice-relend-prefix-decide-2
+slice-relend-prefix-decide-2 c = passed (c .before .before .before .before) .coeffs
+
+slice-aggregate-decide-2 : tie.Need-slice-aggregate-decide-2
+slice-aggregate-decide-2 c = sym (first-coeffs (c .before .before .before .before .before))
+
 decide-requires : tie.Need-decide-requires
 decide-requires c κs =
     let at-second = c .before .before in
     let at-first = at-second .before in
-    let pass = passed (at-first .before .before) in
-    let fits = pass-fits pass (at-first .gate-bytes .ensures .0) (at-second .gate-bytes2 .ensures .0) in
-    (fits .0, fits .1, pass .sets, pass .coeffs)
-
-clear-requires : tie.Need-clear-requires
-clear-requires c κs =
-    let at-decide = c .before .before .before .before .before .before in
-    let pass = passed (at-decide .before .before .before .before .before .before) in
-    let kept = at-decide .decide .kept .1 .1 .1 in
-    (omega (arith, pass .sets, kept .0), omega (arith, pass .coeffs, kept .1 .0))
+    let at-n = at-first .before .before in (
+      pass-fits (passed at-n) (at-first .gate-bytes .ensures .0) (at-second .gate-bytes2 .ensures .0),
+      first-coeffs at-n ∙ sym (first-sets at-n),
+    )
 
 returns : tie.Need-returns
 returns c =
@@ -72,16 +94,14 @@ same-length-2 c = search needs
 
 returns-2 : tie.Need-returns-2
 returns-2 c =
-    let at-clear = c .before .before .before .before in
-    let at-decide = at-clear .before .before .before .before .before .before .before in
+    let at-decide = c .before .before .before .before in
     let at-second = at-decide .before .before .before in
     let at-first = at-second .before in
     let at-n = at-first .before .before in
     let pass = passed at-n in
     let decides = at-decide .decide .ensures in
     let said = pass-said pass (at-first .gate-bytes .ensures .0) (at-second .gate-bytes2 .ensures .0) (decides .0) in
-    let zeros = cleared (resultOf (at-decide .decide .result)) (decides .1) (at-clear .clear .ensures) in
-    (said, (zeros, (at-n .n .given .0 .0, pass .first, pass .second)))
+    (said, ((rw (decides .1 .0, first-sets at-n), rw (decides .1 .1, first-coeffs at-n)), (at-n .n .given .0 .0, pass .first, pass .second)))
 
 pub compare-read-spec : {M : Type 1} → statement M
 compare-read-spec =
@@ -92,8 +112,11 @@ compare-read-spec =
     enum-known-n
     gate-bytes-requires
     gate-bytes-requires-2
+    slice-relend-prefix-decide
+    slice-aggregate-decide
+    slice-relend-prefix-decide-2
+    slice-aggregate-decide-2
     decide-requires
-    clear-requires
     returns
     same-length
     same-length-2
