@@ -1,13 +1,14 @@
 -- `phase_sum_vectors::pair::show` meets its contract.
 -- Assumes nothing.
-use native.Mathlib.Omega.{arith}
-use lib.Count.{ones-le}
 use borrow.Author.Needs.{needs}
 use Rattle.phase_sum_vectors.proofs.pair.show.Statement.{statement}
 use Rattle.phase_sum_vectors.proofs.pair.show.Tie as tie
 
+count-requires : tie.Need-count-requires
+count-requires c κs = search needs
+
 cast-wrapping-add-u64 : tie.Need-cast-wrapping-add-u64
-cast-wrapping-add-u64 c = omega (arith, ones-le 64 (c .before .before .before .before .args .sum .live) (search needs))
+cast-wrapping-add-u64 c = search needs
 
 wrapping-add-u64-requires : tie.Need-wrapping-add-u64-requires
 wrapping-add-u64-requires c κs = search needs
@@ -37,6 +38,7 @@ pub show-spec : {M : Type 1} → statement M
 show-spec =
     tie.close
     (tie.spec
+    count-requires
     cast-wrapping-add-u64
     wrapping-add-u64-requires
     number-requires
