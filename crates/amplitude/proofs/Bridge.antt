@@ -12,8 +12,8 @@ use lib.Pow.{pow-pos, pow-lt}
 use Rattle.record_format.specs.Gate.{Gate, AllWithin, inverseList}
 use Rattle.record_format.proofs.GateLaws.{within-append, within-inverse}
 use Rattle.amplitude.specs.Number.{Zω, 0ω, 1ω, ω^, √2^}
-use Rattle.amplitude.specs.Circuit.{State, basis, run, column, hGates, Fits, Carries}
-use Rattle.amplitude.proofs.NumberLaws.{ω^-0ω, ω^-mod, ω^-cong, ω^-undo, ω^-unique, √2^-0ω, √2^-ω^, √2^-add, √2^-cancel}
+use Rattle.amplitude.specs.Circuit.{State, basis, run, column, hGates, Fits}
+use Rattle.amplitude.proofs.NumberLaws.{ω^-0ω, ω^-cong, ω^-undo, ω^-unique, √2^-0ω, √2^-ω^, √2^-add, √2^-cancel}
 use Rattle.amplitude.proofs.Norm.{norm, norm-ω^, norm-zero, norm-0ω, norm-power}
 use Rattle.amplitude.proofs.Linear.{run-ω^, run-√2^, run-append, tally-append, hGates-inverse}
 use Rattle.amplitude.proofs.Outside.{Outside, basis-same, basis-other, column-outside}

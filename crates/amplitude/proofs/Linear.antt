@@ -13,7 +13,7 @@ use Rattle.amplitude.specs.Bits.{bit, put}
 use Rattle.amplitude.specs.Matrix.{Entry, O, ω, Matrix, matrix, entry, times}
 use Rattle.amplitude.specs.Circuit.{State, apply, run, tally, isH, isT, hGates, tGates}
 use Rattle.amplitude.proofs.BitLaws.{bit-put-same, put-put-same}
-use Rattle.amplitude.proofs.NumberLaws.{+ω-idl, +ω-swap, ω^-+ω, ω^-0ω, ω^-comm, √2^-+ω, √2^-0ω, √2^-ω^}
+use Rattle.amplitude.proofs.NumberLaws.{ω^-+ω, ω^-0ω, ω^-comm, √2^-+ω, √2^-0ω, √2^-ω^}
 
 -- a map of numbers that keeps 0, sums and turns by ω
 pub record Linear (f : Zω → Zω) : Type 0 where

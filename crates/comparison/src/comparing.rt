@@ -1,6 +1,5 @@
 // The comparison: the checks on the pair, then building, pinning, reducing and the verdict.
 ghost use mathlib.Core.Path.{_≡_};
-ghost use Prim.Native.Nat.{_≤_};
 ghost use lib.ListN.{length, replicate};
 ghost use Rattle.phase_sum_terms.specs.Workspace.{lent, before, after, Sized};
 ghost use Rattle.phase_sum_terms.specs.Unmerged.{gatesIn, Buildable};

@@ -4,19 +4,19 @@ use mathlib.Core.Path.{_≡_, refl, sym, _∙_, ap}
 use mathlib.Core.Logic.{_↔_}
 use mathlib.Core.Bool.{true, false, true≢false}
 use mathlib.Core.List.{List, [], _∷_}
-use mathlib.Core.Option.{none, some, Option·some-ne-none}
-use Prim.Native.Nat.{ℕ, suc, _<_}
+use mathlib.Core.Option.{Option·some-ne-none}
+use Prim.Native.Nat.{ℕ}
 use native.Mathlib.Omega.{arith}
 use lib.Dec.{eqb}
 use lib.ListN.{length}
 use borrow.Author.Tests.{eq-eqb, ne-eqb}
 use Rattle.record_format.specs.Gate.{Gate, AllWithin}
-use Rattle.phase_sum_meaning.specs.Parity.{Parity, rest}
-use Rattle.phase_sum_meaning.specs.Building.{PathSum, build}
-use Rattle.phase_sum_meaning.specs.Stepping.{replace, takeOut, turned, constrained, Kind, sum, turn, constraint, kindOf}
-use Rattle.comparison_meaning.specs.Reduction.{Counts, counts, addPin, End, blocks, mismatch}
+use Rattle.phase_sum_meaning.specs.Parity.{Parity}
+use Rattle.phase_sum_meaning.specs.Building.{PathSum}
+use Rattle.phase_sum_meaning.specs.Stepping.{takeOut, turned, Kind, sum, turn, constraint, kindOf}
+use Rattle.comparison_meaning.specs.Reduction.{Counts, counts, End, blocks}
 use Rattle.comparison_meaning.specs.Steps.{Ready, cOf, lOf, Step, sums, turns, joins, Blocked}
-use Rattle.comparison_meaning.specs.Verdict.{Verdict, undecided, Result, result, left, blockedInput, judge, searched, miter, pinnedOf, endOf, compare}
+use Rattle.comparison_meaning.specs.Verdict.{Verdict, undecided, Result, result, left, judge, searched, miter, pinnedOf, endOf, compare}
 use Rattle.comparison_meaning.specs.Course.{Lowest, PathVariable, Pins, every-qubit, pins, agrees, unpinnable, TakesLowest, Reduces, none-ready, obstructed, steps-on, Continues, further, halted, Stuck, Judged, blocked, unready, unsized, found, same, Shown, shows, Course}
 use Rattle.comparison_meaning.proofs.Pinning.{pins-course}
 use Rattle.comparison_meaning.proofs.Outcomes.{continues, reduced-stops, judges, reason, judged-undecided}

@@ -16,7 +16,7 @@ use Rattle.amplitude.specs.Bits.{bit}
 use Rattle.amplitude.proofs.NumberLaws.{√2^-add}
 use Rattle.phase_sum_meaning.specs.Sets.{firstIn, without, Among, here, there}
 use Rattle.phase_sum_meaning.specs.Parity.{Parity, value, rest}
-use Rattle.phase_sum_meaning.specs.Phase.{Term, inOdd}
+use Rattle.phase_sum_meaning.specs.Phase.{inOdd}
 use Rattle.phase_sum_meaning.specs.Building.{PathSum}
 use Rattle.phase_sum_meaning.specs.Stepping.{replace, firstReady, takeOut, turned, Kind, sum, turn, constraint, kindOf, constrained}
 use Rattle.phase_sum_meaning.specs.Meaning.{both, sumOver, phasor, remaining}
@@ -26,7 +26,7 @@ use Rattle.phase_sum_meaning.proofs.StepLaws.{constraint-kind, sum-law, turn-la
 use Rattle.phase_sum_meaning.proofs.Wellformed.{Good, good-takeOut, live-takeOut, good-turned, good-replace, live-replace, holds-oddHalves, holds-lowest}
 use Rattle.phase_sum_meaning.proofs.Evenness.{OddIn, Inputs, even-takeOut, even-turned, even-replace, even-ready}
 use Rattle.phase_sum_meaning.proofs.Roominess.{terms-takeOut, terms-turned, terms-replace}
-use Rattle.comparison_meaning.specs.Reduction.{Counts, addSum, addTurn, addJoin, End, stops, blocks, isZero, Next, goes, stuck, stepWith, stepAt, reduceFrom, factor}
+use Rattle.comparison_meaning.specs.Reduction.{Counts, addSum, addTurn, addJoin, End, blocks, isZero, Next, goes, stuck, stepWith, stepAt, reduceFrom, factor}
 use Rattle.comparison_meaning.specs.Steps.{Ready, cOf, lOf, Step, sums, turns, joins, Steps, more, Blocked}
 use Rattle.comparison_meaning.specs.Course.{Lowest, PathVariable, NoPathVariable, TakesLowest, Reduces, none-ready, obstructed, steps-on}
 use Rattle.phase_sum_meaning.proofs.ParityLaws.{value-agree}

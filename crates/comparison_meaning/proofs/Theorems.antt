@@ -4,11 +4,10 @@
 use mathlib.Core.Path.{_≡_, sym, _∙_}
 use mathlib.Core.Logic.{_⊎_, ⊎-elim}
 use mathlib.Core.Bool.{true, true≢false}
-use mathlib.Core.List.{List, []}
+use mathlib.Core.List.{List}
 use mathlib.Core.Option.{none, some}
 use Prim.Native.Nat.{ℕ, _+_, _*_, _^_, _<_}
 use native.Mathlib.Omega.{arith}
-use lib.ListN.{length}
 use lib.Pow.{pow-pos}
 use Rattle.record_format.specs.Gate.{Gate, AllWithin}
 use Rattle.amplitude.specs.Number.{0ω}
@@ -16,21 +15,21 @@ use Rattle.amplitude.specs.Circuit.{column, hGates, Fits, Carries}
 use Rattle.amplitude.proofs.BitLaws.{bit-zero}
 use Rattle.amplitude.proofs.NumberLaws.{√2^-0ω}
 use Rattle.amplitude.proofs.Bridge.{zero-diagonal}
-use Rattle.phase_sum_meaning.specs.Sets.{Among, Clear}
+use Rattle.phase_sum_meaning.specs.Sets.{Clear}
 use Rattle.phase_sum_meaning.specs.Parity.{Parity}
-use Rattle.phase_sum_meaning.specs.Phase.{minus, inOdd}
+use Rattle.phase_sum_meaning.specs.Phase.{minus}
 use Rattle.phase_sum_meaning.proofs.Evenness.{OddIn, Inputs, ready-even, noOdd-even, noOdd-build}
 use Rattle.phase_sum_meaning.proofs.Roominess.{room-build}
 use Rattle.comparison_meaning.specs.Reduction.{End, factor}
 use Rattle.comparison_meaning.specs.Verdict.{equal, different, undecided, Result, blockedInput, endOf, compare, miter, pinnedOf}
 use Rattle.comparison_meaning.specs.Demands.{SomePower, EqualIsRight, EqualByConstant, DifferentIsRight, ByTheSteps, ReachedBySteps, InputsOnlyIfDifferent, CountsAddUp, StepsWithinHGates, Decided, CliffordIsDecided, EvenIsDecided, EveryStep, EndOfSteps, BuiltFits, EveryStepFits, Demands, BlockedAsShown, EverySumIsCanonical}
-use Rattle.comparison_meaning.specs.Course.{Continues, further, halted, Stuck, Judged, blocked, unready, unsized, found, same, Shown, shows}
+use Rattle.comparison_meaning.specs.Course.{Continues, further, halted, Judged, blocked, unsized, found, same, Shown, shows}
 use Rattle.comparison_meaning.proofs.Weight.{search-some}
 use Rattle.comparison_meaning.proofs.Pinning.{blocked-input, pin-blocked}
 use Rattle.comparison_meaning.proofs.Reducing.{reduce-steps, reduce-blocks, stuck-inputs, stuck-nonzero, stuck-zero}
 use Rattle.comparison_meaning.proofs.Reached.{room-miter, noT-miter, within-miter, pin-end, kept, steps-count, steps-fit, steps-diagonal, fits-sized, same-carries, phases-apart}
 use Rattle.comparison_meaning.proofs.Course.{course-of, only-course, undecided-if-stuck}
-use Rattle.comparison_meaning.proofs.Outcomes.{continues, reduced-steps, reduced-through, reduced-stops, reduced-even, judges, reason, judged-undecided, judged-decided, judged-inputs, reduced-blocked}
+use Rattle.comparison_meaning.proofs.Outcomes.{continues, reduced-steps, reduced-through, reduced-even, judges, reason, judged-decided, judged-inputs, reduced-blocked}
 use Rattle.phase_sum_meaning.proofs.Wellformed.{good-build}
 
 -- no input has a scratch qubit at 1 where there are none

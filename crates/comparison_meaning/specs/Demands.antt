@@ -5,14 +5,13 @@ use mathlib.Core.Path.{_≡_}
 use mathlib.Core.Logic.{_↔_, _⊎_}
 use Prim.Native.Nat.{ℕ, _+_, _*_, _^_, _≤_, _<_}
 use mathlib.Core.Bool.{true}
-use mathlib.Core.List.{List, []}
+use mathlib.Core.List.{List}
 use mathlib.Core.Option.{none, some}
 use lib.ListN.{length}
 use Rattle.record_format.specs.Gate.{Gate}
 use Rattle.record_format.specs.Reading.{accepted, read}
 use Rattle.amplitude.specs.Number.{√2^}
 use Rattle.amplitude.specs.Circuit.{Fits, Carries, column, hGates, tGates}
-use Rattle.phase_sum_meaning.specs.Sets.{Among}
 use Rattle.phase_sum_meaning.specs.Parity.{Parity}
 use Rattle.phase_sum_meaning.specs.Phase.{Canonical, minus, inOdd}
 use Rattle.phase_sum_meaning.specs.Building.{PathSum, build}

@@ -2,7 +2,6 @@
 -- definition, and the contract's clauses on the answer follow from the demands.
 -- Assumes nothing.
 use mathlib.Core.Path.{_≡_, refl, sym, ap, _∙_}
-use mathlib.Core.Logic.{⊎-map}
 use Prim.Native.Nat.{ℕ, _+_, _*_, _≤_}
 use native.Mathlib.Nat.{sub-zero, le-refl}
 use native.Mathlib.Omega.{arith}
@@ -18,12 +17,10 @@ use Rattle.record_format.specs.Gate.{Gate, inverseList}
 use Rattle.record_format.specs.Row.{Fault}
 use Rattle.record_format.specs.Reading.{accepted, read}
 use Rattle.record_format.proofs.Rows.{none-holds}
-use Rattle.amplitude.specs.Circuit.{tally, isH, hGates}
-use Rattle.amplitude.proofs.Linear.{tally-append, hGates-inverse}
-use Rattle.phase_sum_meaning.specs.Phase.{minus}
-use Rattle.phase_sum_meaning.specs.Building.{PathSum, initial, build}
+use Rattle.amplitude.specs.Circuit.{tally, hGates}
+use Rattle.amplitude.proofs.Linear.{tally-append}
+use Rattle.phase_sum_meaning.specs.Building.{PathSum, build}
 use Rattle.phase_sum_meaning.specs.Room.{roomFor, room, mostVariables, places}
-use Rattle.phase_sum_meaning.proofs.Wellformed.{live-build-from, live-build}
 use Rattle.phase_sum_meaning.proofs.Roominess.{room-build, tally-inverse-room}
 use Rattle.phase_sum_terms.specs.Workspace.{setOf, over, Lent, members, Sized}
 use Rattle.phase_sum_terms.specs.Unmerged.{gatesIn, Builds, Buildable}
@@ -32,15 +29,13 @@ use Rattle.phase_sum_terms.proofs.Storing.{over-padded}
 use Rattle.phase_sum_terms.proofs.Acceptance.{buildable}
 use Rattle.comparison_meaning.specs.Reduction as reduction
 use Rattle.comparison_meaning.specs.Reduction.{pinned, reduceEnd}
-use Rattle.comparison_meaning.specs.Verdict as verdict
-use Rattle.comparison_meaning.specs.Verdict.{Result, equal, different, undecided, miter, judge, compare}
+use Rattle.comparison_meaning.specs.Verdict.{Result, equal, different, miter, judge, compare}
 use Rattle.comparison_meaning.specs.Demands.{Accepted, Demands, EqualIsRight, DifferentIsRight, ByTheSteps, InputsOnlyIfDifferent, CliffordIsDecided, CountsAddUp, StepsWithinHGates}
 use Rattle.comparison_meaning.proofs.Bytes.{demands-pair}
-use Rattle.comparison_types.specs.Call.{Said, says, refuses, numberOf, verdictOf, resultOf, saidOf, pairRows, workspaceRows, pairFault, compareRead, unlessFault, comparison}
+use Rattle.comparison_types.specs.Call.{Said, says, refuses, numberOf, resultOf, saidOf, pairRows, workspaceRows, pairFault, compareRead, unlessFault, comparison}
 use Rattle.comparison_types.specs.Clauses.{ForResult, Sound, Stops, Inputs, Clifford, CountsUp}
 use Rattle.comparison_types.specs.Inner.{AcceptedWith, numberIn, pairNumber, PairRead}
 use Rattle.comparison_types.specs.declared.Verdict.{Verdict}
-use Rattle.comparison_types.specs.declared.Verdict.the-variants.{Equal, Different, Undecided}
 use Rattle.comparison_types.specs.declared.Outcome.{Outcome}
 use Rattle.comparison_types.specs.declared.Refusal.{Refusal}
 use Rattle.comparison_types.specs.declared.Answer.{Answer}

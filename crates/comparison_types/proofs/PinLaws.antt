@@ -7,7 +7,6 @@ use native.Mathlib.Numerals.{add-one}
 use native.Mathlib.Omega.{arith}
 use mathlib.Core.Bool.{Bool, true, false, cond, not}
 use mathlib.Core.Option.{none, some}
-use mathlib.Core.List.{List}
 use lib.ListN.{length}
 use Rattle.amplitude.proofs.BitLaws.{bit-zero}
 use Rattle.amplitude.proofs.XorLaws.{xor-falseʳ}

@@ -14,21 +14,7 @@ use Rattle.phase_sum_meaning.specs.Sets.{firstSuch, firstIn}
 use Rattle.phase_sum_meaning.specs.Phase.{Term, inOdd}
 use Rattle.phase_sum_meaning.specs.Parity.{Parity, rest}
 use Rattle.phase_sum_meaning.specs.Building.{PathSum}
-use Rattle.phase_sum_meaning.specs.Stepping.{
-  Kind,
-  sum,
-  turn,
-  constraint,
-  kindOf,
-  constrained,
-  firstReady,
-  halfSum,
-  oddHalves,
-  outOf,
-  replace,
-  takeOut,
-  turned,
-}
+use Rattle.phase_sum_meaning.specs.Stepping.{Kind, sum, turn, constraint, kindOf, constrained, firstReady, outOf, replace, takeOut, turned}
 use Rattle.phase_sum_meaning.specs.Room.{mostVariables}
 use Rattle.phase_sum_meaning.proofs.VariableLaws.{firstSuch-some}
 use Rattle.phase_sum_terms.specs.Workspace.{setOf, held, parityOf, Lent, members, foundOf, sumOf, Sized}
@@ -38,7 +24,7 @@ use Rattle.comparison_types.specs.declared.Counts.{Counts}
 use Rattle.phase_sum_terms.specs.declared.Sum.{Sum}
 use Rattle.comparison_types.specs.declared.End.{End}
 use Rattle.phase_sum_terms.specs.declared.Found.{Found}
-use Rattle.comparison_types.specs.Inner.{countsOf, Goes, endOf, nextOf, CountedTo, stepTo, Stays, ReducedTo}
+use Rattle.comparison_types.specs.Inner.{countsOf, Goes, nextOf, CountedTo, stepTo, Stays, ReducedTo}
 use Rattle.phase_sum_terms.proofs.Members.{member-held, members-without, members-few}
 use Rattle.phase_sum_terms.proofs.Running.{AsLong, long-after}
 

@@ -1,11 +1,11 @@
 -- Where a comparison ends: the lowest variable of a set among the qubits, and the verdict by its cases.
 -- Assumes nothing.
 use mathlib.Core.Path.{_≡_, refl, sym, _∙_, ap}
-use mathlib.Core.Bool.{Bool, true, false, cond, _||_, or-true}
-use mathlib.Core.List.{List, [], _∷_, _++_, append-nil}
+use mathlib.Core.Bool.{Bool, true, false}
+use mathlib.Core.List.{List, [], _∷_, _++_}
 use mathlib.Core.Option.{Option, none, some}
 use Prim.Native.Nat.{ℕ, zero, suc, _+_, _*_, _-_, _/_, _%_, _^_, _<_, _≤_}
-use native.Mathlib.Nat.{add-zero, zero-add, add-suc, suc-add, mod-lt, div-add-mod'}
+use native.Mathlib.Nat.{zero-add, mod-lt, div-add-mod'}
 use native.Mathlib.Omega.{arith}
 use lib.Bits.{block-half, block-odd}
 use lib.Count.{ones, onesIn}
@@ -14,8 +14,8 @@ use lib.ListN.{length}
 use lib.Pow.{pow-pos, pow-mono}
 use borrow.Author.Tests.{eqb-true, eqb-false, eq-eqb, ne-eqb}
 use Rattle.amplitude.specs.Bits.{bit}
-use Rattle.amplitude.proofs.BitLaws.{bit-zero, bit-above, bit-power, bit-power-other}
-use Rattle.phase_sum_meaning.specs.Sets.{firstSuch, firstIn, from, single, Among, here, there}
+use Rattle.amplitude.proofs.BitLaws.{bit-above}
+use Rattle.phase_sum_meaning.specs.Sets.{firstSuch, firstIn, from, Among, here, there}
 use Rattle.phase_sum_meaning.specs.Parity.{Parity}
 use Rattle.phase_sum_meaning.specs.Phase.{Phase}
 use Rattle.phase_sum_meaning.specs.Room.{mostVariables}

@@ -15,7 +15,7 @@ use Rattle.phase_sum_meaning.specs.Building.{PathSum}
 use Rattle.phase_sum_meaning.specs.Stepping.{replace, takeOut, turned}
 use Rattle.phase_sum_meaning.specs.Room.{mostVariables}
 use Rattle.phase_sum_meaning.proofs.Roominess.{terms-replace, terms-takeOut, terms-turned}
-use Rattle.phase_sum_terms.specs.Workspace.{setOf, held, Phased, Lent, wiresIn, members, sumOf, Stands, Became, Sized}
+use Rattle.phase_sum_terms.specs.Workspace.{setOf, Phased, Lent, wiresIn, members, sumOf, Stands, Became, Sized}
 use Rattle.phase_sum_terms.specs.declared.Sum.{Sum}
 use Rattle.phase_sum_terms.proofs.Storing.{length-held, stored-held}
 use Rattle.phase_sum_terms.proofs.Members.{members-hold, some-length}

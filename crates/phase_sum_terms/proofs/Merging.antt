@@ -13,7 +13,7 @@ use Rattle.record_format.specs.Gate.{Gate, one, two, X, Y, Z, S, S†, T, T†,
 use Rattle.amplitude.specs.Bits.{digit}
 use Rattle.phase_sum_meaning.specs.Parity.{Parity, of, complement}
 use Rattle.phase_sum_meaning.specs.Phase.{Term, Phase, minus, keep, merge, rebuild, addTerm, addConstant, addPhase}
-use Rattle.phase_sum_meaning.specs.Phase.{CanonicalAbove, Canonical}
+use Rattle.phase_sum_meaning.specs.Phase.{Canonical}
 use Rattle.phase_sum_meaning.specs.Building.{PathSum, wire, setWire, withPhase, hadamardBy, initial, gateBy, gate, gatesFrom, build}
 use Rattle.phase_sum_terms.specs.Workspace.{setsOf, coeffsOf, merged}
 use Rattle.phase_sum_terms.specs.Unmerged.{phaseTerm, putBehind, appendGate, appendGates}

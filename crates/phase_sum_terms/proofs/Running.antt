@@ -10,7 +10,7 @@ use lib.ListN.{length, getD, set, take, drop, length-append, length-take, length
 use lib.Seq.{take-add}
 use lib.Dec.{leb, ltb}
 use borrow.Author.Tests.{leb-true, leb-false, lt-leb, ltb-true, ltb-false}
-use Rattle.record_format.specs.Gate.{Gate, OneQubit, TwoQubit, one, two, X, Y, Z, S, S†, T, T†, H, CX, CZ, SWAP, Within, AllWithin, oneQubitKinds, twoQubitKinds, raw, gateOf, inverseNumber, inverseGate, inverseKind, inverseList}
+use Rattle.record_format.specs.Gate.{Gate, TwoQubit, one, two, X, Y, Z, S, S†, T, T†, H, CX, CZ, SWAP, Within, AllWithin, oneQubitKinds, twoQubitKinds, raw, gateOf, inverseNumber, inverseGate, inverseKind, inverseList}
 use Rattle.record_format.specs.Reading.{raws}
 use Rattle.record_format.proofs.GateLaws.{inverse-raw, within-append, within-inverse}
 use Rattle.record_format.proofs.Storing.{three-at}
@@ -19,10 +19,10 @@ use Rattle.amplitude.proofs.Linear.{tally-append, hGates-inverse}
 use Rattle.phase_sum_meaning.specs.Sets.{single, from}
 use Rattle.phase_sum_meaning.specs.Parity.{Parity, of, _⊕_, complement}
 use Rattle.phase_sum_meaning.specs.Phase.{Term, Phase as Polynomial, addConstant}
-use Rattle.phase_sum_meaning.specs.Building.{PathSum, initial, wire, setWire, withPhase, productBy, hadamardBy, gateBy, build}
+use Rattle.phase_sum_meaning.specs.Building.{PathSum, initial, wire, setWire, withPhase, productBy, hadamardBy, gateBy}
 use Rattle.phase_sum_meaning.specs.Room.{roomFor, room, mostVariables}
 use Rattle.phase_sum_terms.specs.Workspace.{setOf, held, setsOf, coeffsOf, over, Stored, merged, Phased, alone, parityOf, zipWires, Lent, slices, wiresIn, members}
-use Rattle.phase_sum_terms.specs.Unmerged.{gatesIn, putBehind, appendGate, appendGates, sumIn, Runnable, Leaves, movesOnly, Moves, placesTaken, Builds, Buildable}
+use Rattle.phase_sum_terms.specs.Unmerged.{gatesIn, putBehind, appendGate, appendGates, sumIn, Runnable, Leaves, movesOnly, Moves, Builds, Buildable}
 use Rattle.phase_sum_terms.specs.Inner.{appendPhase, onH}
 use Rattle.phase_sum_terms.specs.declared.sets.Set.{Set}
 use Rattle.phase_sum_terms.specs.declared.Phase.{Phase}

@@ -10,7 +10,7 @@ use lib.ListN.{length, getD, drop, length-drop}
 use lib.Dec.{eqb}
 use borrow.Author.Tests.{lt-leb, ne-eqb}
 use Rattle.record_format.specs.Format.{lastOneQubit}
-use Rattle.record_format.specs.Gate.{Gate, OneQubit, TwoQubit, one, two, X, Y, Z, S, S†, T, T†, H, CX, CZ, SWAP, gateOf, raw, oneQubitKind, oneQubitKinds, twoQubitKinds}
+use Rattle.record_format.specs.Gate.{Gate, OneQubit, TwoQubit, one, two, X, Y, Z, S, S†, T, T†, H, CX, CZ, SWAP, gateOf, raw, oneQubitKind}
 use Rattle.record_format.specs.Reading.{raws}
 use Rattle.record_format.proofs.Storing.{three-at}
 use Rattle.amplitude.specs.Bits.{digit}

@@ -13,7 +13,7 @@ use lib.Seq.{take-all, take-suc-set}
 use Rattle.amplitude.proofs.BitLaws.{bit-zero}
 use Rattle.amplitude.proofs.XorLaws.{xor-trueˡ}
 use Rattle.phase_sum_meaning.specs.Sets.{single, from}
-use Rattle.phase_sum_meaning.specs.Parity.{Parity, of, _⊕_, complement}
+use Rattle.phase_sum_meaning.specs.Parity.{Parity, of, complement}
 use Rattle.phase_sum_meaning.specs.Phase.{Term, Phase as Polynomial}
 use Rattle.phase_sum_meaning.specs.Building.{input, initial}
 use Rattle.phase_sum_terms.specs.Workspace.{held, zipWires, Stored, phaseOf, Phased}

@@ -1,7 +1,7 @@
 // Sets of variables: the type, every operation on sets, and sets at the places of a lent slice. A set is one word; whoever uses sets knows
 // only these functions, but for the sort, which orders words as numbers.
 ghost use mathlib.Core.Path.{_≡_};
-ghost use Prim.Native.Nat.{ℕ, _%_, _^_, _<_, _≤_};
+ghost use Prim.Native.Nat.{ℕ, _%_, _^_, _<_};
 ghost use mathlib.Core.Bool.{not, _||_};
 ghost use lib.ListN.{length, getD, set};
 ghost use lib.Dec.{eqb};
@@ -101,7 +101,8 @@ pub fn without(s: Set, v: u32) -> Set
     ensures { λ r. ⌜ setOf r ≡ outOf v (setOf s) ⌝ }
 {
     if holds(s, v) {
-        return exclusive_or(s, single(v));
+        let one = single(v);
+        return exclusive_or(s, one);
     }
     s
 }

@@ -12,7 +12,6 @@ use phase_sum_terms::Sum;
 use phase_sum_terms::sets::Set;
 use phase_sum_terms::sets::empty;
 use phase_sum_terms::sets::parity;
-use phase_sum_terms::sets::single;
 use phase_sum_terms::terms;
 
 // The qubits that the wires have places for.

@@ -1,7 +1,7 @@
 -- `comparison_checking::check_call` meets its contract: a pair that the checks on the records refuse is refused by the same number, and for
 -- another the workspaces decide.
 -- Assumes nothing.
-use mathlib.Core.Path.{_≡_, sym, ap, _∙_}
+use mathlib.Core.Path.{_≡_, sym, _∙_}
 use mathlib.Core.Bool.{Bool, true, false, cond}
 use mathlib.Core.Option.{none, some}
 use borrow.Author.Needs.{needs}

@@ -1,6 +1,6 @@
 -- `phase_sum_building::build` meets its contract: the first list runs on the sum of no gates, then the second inverted, and the terms are merged.
 -- Assumes nothing.
-use mathlib.Core.Path.{_≡_, refl, _∙_}
+use mathlib.Core.Path.{refl, _∙_}
 use native.Mathlib.Omega.{arith}
 use denote.Ref.{now}
 use Rattle.record_format.specs.Gate.{inverseList}

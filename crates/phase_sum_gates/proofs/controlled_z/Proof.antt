@@ -1,13 +1,10 @@
 -- `phase_sum_gates::controlled_z` meets its contract.
 -- Assumes nothing.
 use native.Mathlib.Omega.{arith}
-use denote.Ref.{now}
-use mathlib.Core.Path.{refl, sym, ap, _∙_}
 use Rattle.phase_sum_terms.proofs.Running.{controlled-z-leaves}
 use Rattle.phase_sum_terms.specs.Workspace.{lent}
 use Rattle.amplitude.specs.Circuit.{tally}
 use Rattle.phase_sum_meaning.specs.Room.{roomFor}
-use Rattle.record_format.specs.Gate.{oneQubitKind}
 use borrow.Author.Needs.{needs}
 use Rattle.phase_sum_gates.proofs.controlled_z.Statement.{statement}
 use Rattle.phase_sum_gates.proofs.controlled_z.Tie as tie

@@ -1,8 +1,6 @@
 -- `phase_sum_gates::diagonal` meets its contract.
 -- Assumes nothing.
 use native.Mathlib.Omega.{arith}
-use denote.Ref.{now}
-use mathlib.Core.Path.{refl, sym, ap, _∙_}
 use Rattle.phase_sum_terms.proofs.Running.{diagonal-leaves}
 use Rattle.phase_sum_terms.specs.Workspace.{lent}
 use borrow.Author.Needs.{needs}

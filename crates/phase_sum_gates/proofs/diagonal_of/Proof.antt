@@ -1,6 +1,6 @@
 -- `phase_sum_gates::diagonal_of` meets its contract: the kind is one of five.
 -- Assumes nothing.
-use mathlib.Core.Path.{_≡_, refl}
+use mathlib.Core.Path.{_≡_}
 use Prim.Native.Nat.{ℕ, _<_}
 use native.Mathlib.Omega.{arith}
 use Rattle.record_format.specs.Gate.{gateOf}

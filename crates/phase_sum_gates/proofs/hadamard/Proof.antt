@@ -1,8 +1,7 @@
 -- `phase_sum_gates::hadamard` meets its contract.
 -- Assumes nothing.
 use native.Mathlib.Omega.{arith}
-use denote.Ref.{now}
-use mathlib.Core.Path.{refl, sym, ap, _∙_}
+use mathlib.Core.Path.{refl, ap}
 use Rattle.phase_sum_terms.proofs.Running.{hadamard-leaves}
 use Rattle.phase_sum_terms.specs.Workspace.{lent}
 use Rattle.amplitude.specs.Circuit.{tally}

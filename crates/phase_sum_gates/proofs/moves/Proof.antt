@@ -1,6 +1,5 @@
 -- `phase_sum_gates::moves` meets its contract.
 -- Assumes nothing.
-use mathlib.Core.Path.{refl}
 use Rattle.record_format.specs.Gate.{gateOf}
 use Rattle.phase_sum_meaning.specs.Room.{roomFor}
 use Rattle.phase_sum_terms.proofs.Running.{above-cz}

@@ -1,13 +1,10 @@
 -- `phase_sum_gates::y_gate` meets its contract.
 -- Assumes nothing.
 use native.Mathlib.Omega.{arith}
-use denote.Ref.{now}
-use mathlib.Core.Path.{refl, sym, ap, _∙_}
 use Rattle.phase_sum_terms.proofs.Running.{x-moved, y-leaves}
 use Rattle.phase_sum_terms.specs.Workspace.{lent}
 use Rattle.amplitude.specs.Circuit.{tally}
 use Rattle.phase_sum_meaning.specs.Room.{roomFor}
-use Rattle.record_format.specs.Gate.{oneQubitKind}
 use borrow.Author.Needs.{needs}
 use Rattle.phase_sum_gates.proofs.y_gate.Statement.{statement}
 use Rattle.phase_sum_gates.proofs.y_gate.Tie as tie

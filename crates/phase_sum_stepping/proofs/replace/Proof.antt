@@ -1,6 +1,5 @@
 -- `phase_sum_stepping::replace` meets its contract: the wires and the terms with z replaced are stored, and the terms merged.
 -- Assumes nothing.
-use native.Mathlib.Omega.{arith}
 use Rattle.phase_sum_meaning.specs.Parity.{of, replaceIn}
 use Rattle.phase_sum_meaning.specs.Stepping.{replace}
 use Rattle.phase_sum_terms.specs.Workspace.{setOf, parityOf, lent, sumOf}

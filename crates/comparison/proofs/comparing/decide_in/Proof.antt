@@ -1,7 +1,6 @@
 -- `comparison::comparing::decide_in` meets its contract. The built sum is pinned, reduced and judged, which is the comparison by its definition.
 -- Assumes nothing.
-use mathlib.Core.Path.{refl, _∙_}
-use native.Mathlib.Omega.{arith}
+use mathlib.Core.Path.{_∙_}
 use lib.ListN.{length}
 use denote.Ref.{now}
 use Rattle.phase_sum_terms.specs.Unmerged.{gatesIn}

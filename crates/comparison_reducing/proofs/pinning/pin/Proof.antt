@@ -1,12 +1,12 @@
 -- `comparison_reducing::pinning::pin` meets its contract. The loop's invariant: pinning has come to qubit q, not blocked, and pinning what is left pins the whole. The measure is how many qubits are left.
 -- Assumes nothing.
-use mathlib.Core.Path.{_≡_, refl, _∙_}
+use mathlib.Core.Path.{_∙_}
 use Prim.Native.Nat.{_-_, _<_}
 use native.Mathlib.Omega.{arith}
 use lib.ListN.{length}
 use borrow.Author.Needs.{needs}
 use denote.Ref.{now}
-use Rattle.phase_sum_terms.specs.Workspace.{slices, lent}
+use Rattle.phase_sum_terms.specs.Workspace.{slices}
 use Rattle.comparison_types.proofs.PinLaws.{PinnedTo, none-pinned, more-pinned, pinned-blocked, all-pinned}
 use Rattle.comparison_reducing.proofs.pinning.pin.Statement.{statement}
 use Rattle.comparison_reducing.proofs.pinning.pin.Tie as tie

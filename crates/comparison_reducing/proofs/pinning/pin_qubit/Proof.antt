@@ -1,8 +1,8 @@
 -- `comparison_reducing::pinning::pin_qubit` meets its contract: where the search finds a variable, the qubit is pinned by it; where not, the mismatch decides.
 -- Assumes nothing.
-use mathlib.Core.Path.{_≡_, refl, sym, ap, _∙_}
+use mathlib.Core.Path.{sym, ap, _∙_}
 use native.Mathlib.Omega.{arith}
-use Rattle.phase_sum_terms.specs.Workspace.{lent, foundOf}
+use Rattle.phase_sum_terms.specs.Workspace.{foundOf}
 use Rattle.phase_sum_terms.proofs.Changing.{sized-stands}
 use Rattle.comparison_types.proofs.PinLaws.{found-below, pinned-found, pinned-free}
 use borrow.Author.Needs.{needs}

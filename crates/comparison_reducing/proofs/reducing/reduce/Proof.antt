@@ -1,6 +1,6 @@
 -- `comparison_reducing::reducing::reduce` meets its contract. The loop's invariant: what the definition gives from the start it gives from here with the steps that are left. The measure is how many are left.
 -- Assumes nothing.
-use mathlib.Core.Path.{_≡_, refl, sym, ap, _∙_}
+use mathlib.Core.Path.{sym, ap, _∙_}
 use native.Mathlib.Omega.{arith}
 use borrow.Author.Needs.{needs}
 use Rattle.phase_sum_terms.specs.Workspace.{setOf, lent, slices, foundOf}

@@ -1,8 +1,7 @@
 -- `comparison_reducing::reducing::step` meets its contract: where the search finds a variable of L, the step is at it; where not, it is blocked, or none is asked for.
 -- Assumes nothing.
-use mathlib.Core.Path.{_≡_, refl, sym, ap, _∙_}
+use mathlib.Core.Path.{refl, sym, ap, _∙_}
 use mathlib.Core.Bool.{true, false, true≢false}
-use native.Mathlib.Omega.{arith}
 use Rattle.phase_sum_terms.specs.Workspace.{setOf, lent, sumOf, foundOf}
 use Rattle.phase_sum_terms.proofs.Changing.{sized-stands}
 use Rattle.comparison_types.specs.Inner.{countsOf}

@@ -1,11 +1,7 @@
 -- `phase_sum_terms::sets::below` meets its contract: the rest by the shifted 1 leaves the variables below n.
 -- Assumes nothing.
-use mathlib.Core.Path.{ap}
-use Prim.Native.Nat.{ℕ, _%_}
-use native.Mathlib.Omega.{arith}
 use lib.Pow.{pow-pos}
 use borrow.Author.Needs.{needs}
-use Rattle.phase_sum_terms.specs.Workspace.{setOf}
 use Rattle.phase_sum_terms.proofs.Words.{shifted-one}
 use Rattle.phase_sum_terms.proofs.sets.below.Statement.{statement}
 use Rattle.phase_sum_terms.proofs.sets.below.Tie as tie
