@@ -42,8 +42,10 @@ returns c = (decided (c .before) true (c .if1 .taken), tt)
 
 returns-2 : tie.Need-returns-2
 returns-2 c =
-    let args = c .before .before .before .before .before .before .args in (
-      call-refused (args .first .now) (args .second .now) (args .words) (args .bytes) _ (c .before .before .before .check-pair .ensures .0)
+    let at-check-pair = c .before .before .before in
+    let start = at-check-pair .before .before .before in
+    let args = start .args in (
+      call-refused (args .first .now) (args .second .now) (args .words) (args .bytes) _ (at-check-pair .check-pair .ensures .0)
           (c .before .refusal .given .1),
       tt,
     )

@@ -42,18 +42,21 @@ check-sizes-requires c κs = (first-accepted (c .before .before .before .before 
 
 returns : tie.Need-returns
 returns c =
-    let start = c .before .before .before .before .before .before in
+    let at-check = c .before .before .before in
+    let start = at-check .before .before .before in
     let (f, reads, same) =
-    refused-by (start .args .first .now) _ _ (c .before .before .before .check .ensures) (c .before .refusal .given .1) in
+    refused-by (start .args .first .now) _ _ (at-check .check .ensures) (c .before .refusal .given .1) in
     (first-refused (start .args .first .now) (start .args .second .now) [] _ f reads same, tt)
 
 returns-2 : tie.Need-returns-2
 returns-2 c =
-    let start = c .before .before .before .before .before .before .before .before .before .before in
+    let at-check2 = c .before .before .before in
+    let at-n = at-check2 .before .before in
+    let start = at-n .before .before .before .before .before in
     let (f, reads, same) =
-    refused-by (start .args .second .now) _ _ (c .before .before .before .check2 .ensures) (c .before .refusal2 .given .1) in (
+    refused-by (start .args .second .now) _ _ (at-check2 .check2 .ensures) (c .before .refusal2 .given .1) in (
       second-refused (start .args .first .now) (start .args .second .now) [] _ _ _ f
-          (first-accepted (c .before .before .before .before .before))
+          (first-accepted (at-n))
           reads
           same,
       tt,

@@ -55,31 +55,43 @@ moves-requires c κs = tt
 
 move-wires-requires : tie.Need-move-wires-requires Inv-loop μ-loop
 move-wires-requires c κs =
-    let loop = c .before .before .before .before .before .before .before .before .loop in
-    let bytes = now (c .before .before .before .before .before .before .before .before .before .before .before .before .before .before .args .gates) in
+    let at-moves = c .before .before .before in
+    let in-loop = at-moves .before .before .before .before in
+    let at-loop = in-loop .before in
+    let start = at-loop .before .before .before .before .before .before in
+    let loop = at-loop .loop in
+    let bytes = now (start .args .gates) in
     let i = loop .i in
-    let some = c .before .before .before .before .before .before .before .loop-test .taken in
+    let some = in-loop .loop-test .taken in
     let first = inverse-before bytes i (omega (arith, loop .inv .1)) (omega (arith, some)) (omega (arith, loop .inv .0)) in
-    let only = sym (c .before .before .before .moves .ensures (getD bytes (i - 3 + 1) 0) (getD bytes (i - 3 + 2) 0)) ∙ c .before .before .if1 .taken in
+    let only = sym (at-moves .moves .ensures (getD bytes (i - 3 + 1) 0) (getD bytes (i - 3 + 2) 0)) ∙ c .before .before .if1 .taken in
     let same = inverse-moves (getD bytes (i - 3) 0) (getD bytes (i - 3 + 1) 0) (getD bytes (i - 3 + 2) 0) only in
     let fits = first-fit (gateAt bytes (i - 3) ∷ []) _ (rw same at (rw first at (loop .inv .2))) in
     (only, fits .within .0, fits .flips)
 
 loop-less : tie.Need-loop-less Inv-loop μ-loop
-loop-less c = omega (arith, c .before .before .before .before .before .before .before .before .before .before .before .before .loop-test .taken)
+loop-less c =
+    let in-loop = c .before .before .before .before .before .before .before .before .before .before .before .before in
+    omega (arith, in-loop .loop-test .taken)
 
 loop-again : tie.Need-loop-again Inv-loop μ-loop
 loop-again c =
-    let loop = c .before .before .before .before .before .before .before .before .before .before .before .before .before .loop in
-    let bytes = now (c .before .before .before .before .before .before .before .before .before .before .before .before .before .before .before .before .before .before .before .args .gates) in
+    let at-move-wires = c .before .before .before .before in
+    let at-if1 = at-move-wires .before .before .before in
+    let at-moves = at-if1 .before in
+    let in-loop = at-moves .before .before .before .before in
+    let at-loop = in-loop .before in
+    let start = at-loop .before .before .before .before .before .before in
+    let loop = at-loop .loop in
+    let bytes = now (start .args .gates) in
     let i = loop .i in
-    let some = c .before .before .before .before .before .before .before .before .before .before .before .before .loop-test .taken in
+    let some = in-loop .loop-test .taken in
     let first = inverse-before bytes i (omega (arith, loop .inv .1)) (omega (arith, some)) (omega (arith, loop .inv .0)) in
-    let only = sym (c .before .before .before .before .before .before .before .before .moves .ensures (getD bytes (i - 3 + 1) 0) (getD bytes (i - 3 + 2) 0)) ∙ c .before .before .before .before .before .before .before .if1 .taken in
+    let only = sym (at-moves .moves .ensures (getD bytes (i - 3 + 1) 0) (getD bytes (i - 3 + 2) 0)) ∙ at-if1 .if1 .taken in
     let same = inverse-moves (getD bytes (i - 3) 0) (getD bytes (i - 3 + 1) 0) (getD bytes (i - 3 + 2) 0) only in
     let run = rw same at (rw first at (loop .inv .2)) in
     let fits = first-fit (gateAt bytes (i - 3) ∷ []) _ run in
-    let moved = c .before .before .before .before .move-wires in
+    let moved = at-move-wires .move-wires in
     let kept = moved .kept .1 .1 .1 in
     let leaves = moves-leaves (loop .now) (gateAt bytes (i - 3)) _ _ _ fits (moved .ensures) in
     let left =
@@ -93,31 +105,44 @@ inverse-kind-requires c κs = tt
 
 run-gate-requires : tie.Need-run-gate-requires Inv-loop μ-loop
 run-gate-requires c κs =
-    let loop = c .before .before .before .before .before .before .before .before .before .before .before .loop in
-    let bytes = now (c .before .before .before .before .before .before .before .before .before .before .before .before .before .before .before .before .before .args .gates) in
+    let at-inverse-kind = c .before .before .before .before in
+    let at-if1 = at-inverse-kind .before in
+    let at-moves = at-if1 .before in
+    let in-loop = at-moves .before .before .before .before in
+    let at-loop = in-loop .before in
+    let start = at-loop .before .before .before .before .before .before in
+    let loop = at-loop .loop in
+    let bytes = now (start .args .gates) in
     let i = loop .i in
-    let some = c .before .before .before .before .before .before .before .before .before .before .loop-test .taken in
+    let some = in-loop .loop-test .taken in
     let first = inverse-before bytes i (omega (arith, loop .inv .1)) (omega (arith, some)) (omega (arith, loop .inv .0)) in
-    let stays = sym (c .before .before .before .before .before .before .moves .ensures (getD bytes (i - 3 + 1) 0) (getD bytes (i - 3 + 2) 0)) ∙ c .before .before .before .before .before .if1 .left in
-    rw (c .before .before .before .before .inverse-kind .ensures) (
+    let stays = sym (at-moves .moves .ensures (getD bytes (i - 3 + 1) 0) (getD bytes (i - 3 + 2) 0)) ∙ at-if1 .if1 .left in
+    rw (at-inverse-kind .inverse-kind .ensures) (
       inverse-stays (getD bytes (i - 3) 0) (getD bytes (i - 3 + 1) 0) (getD bytes (i - 3 + 2) 0) stays,
       first-fit (inverseAt bytes (i - 3) ∷ []) _ (rw first at (loop .inv .2)),
     )
 
 loop-less-2 : tie.Need-loop-less-2 Inv-loop μ-loop
-loop-less-2 c = omega (arith, c .before .before .before .before .before .before .before .before .before .before .before .before .before .before .before .before .before .before .before .loop-test .taken)
+loop-less-2 c =
+    let in-loop = c .before .before .before .before .before .before .before .before .before .before .before .before .before .before .before .before .before .before .before in
+    omega (arith, in-loop .loop-test .taken)
 
 loop-again-2 : tie.Need-loop-again-2 Inv-loop μ-loop
 loop-again-2 c =
-    let loop = c .before .before .before .before .before .before .before .before .before .before .before .before .before .before .before .before .before .before .before .before .loop in
-    let bytes = now (c .before .before .before .before .before .before .before .before .before .before .before .before .before .before .before .before .before .before .before .before .before .before .before .before .before .before .args .gates) in
+    let at-run-gate = c .before .before .before .before .before .before .before .before in
+    let at-inverse-kind = at-run-gate .before .before .before .before .before in
+    let in-loop = at-inverse-kind .before .before .before .before .before .before in
+    let at-loop = in-loop .before in
+    let start = at-loop .before .before .before .before .before .before in
+    let loop = at-loop .loop in
+    let bytes = now (start .args .gates) in
     let i = loop .i in
-    let some = c .before .before .before .before .before .before .before .before .before .before .before .before .before .before .before .before .before .before .before .loop-test .taken in
+    let some = in-loop .loop-test .taken in
     let first = inverse-before bytes i (omega (arith, loop .inv .1)) (omega (arith, some)) (omega (arith, loop .inv .0)) in
-    let kept = c .before .before .before .before .before .before .before .before .run-gate .kept .1 .1 .1 .1 in
+    let kept = at-run-gate .run-gate .kept .1 .1 .1 .1 in
     let left =
     one-run (inverseAt bytes (i - 3)) (inverseList (gatesIn (take (i - 3) bytes))) (loop .now) (rw first at (loop .inv .2))
-    (rw (c .before .before .before .before .before .before .before .before .before .before .before .before .before .inverse-kind .ensures) at (c .before .before .before .before .before .before .before .before .run-gate .ensures))
+    (rw (at-inverse-kind .inverse-kind .ensures) at (at-run-gate .run-gate .ensures))
     (record { wires = kept .0; flips = kept .1 .0; sets = kept .1 .1 .0; coeffs = kept .1 .1 .1 .0 })
     in
     (omega (arith, some, loop .inv .0), omega (arith, some, loop .inv .1), left)

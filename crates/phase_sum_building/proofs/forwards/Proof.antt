@@ -52,25 +52,35 @@ moves-requires c κs = tt
 
 move-wires-requires : tie.Need-move-wires-requires Inv-loop μ-loop
 move-wires-requires c κs =
-    let loop = c .before .before .before .before .before .before .before .before .loop in
-    let bytes = now (c .before .before .before .before .before .before .before .before .before .before .before .before .before .before .args .gates) in
-    let first = gates-from bytes (loop .i) (omega (arith, c .before .before .before .before .before .before .before .loop-test .taken, loop .inv .0, loop .inv .1)) in
+    let at-moves = c .before .before .before in
+    let in-loop = at-moves .before .before .before .before in
+    let at-loop = in-loop .before in
+    let start = at-loop .before .before .before .before .before .before in
+    let loop = at-loop .loop in
+    let bytes = now (start .args .gates) in
+    let first = gates-from bytes (loop .i) (omega (arith, in-loop .loop-test .taken, loop .inv .0, loop .inv .1)) in
     let fits = first-fit (gateAt bytes (loop .i) ∷ []) _ (rw first at (loop .inv .2)) in
-    (sym (c .before .before .before .moves .ensures _ _) ∙ c .before .before .if1 .taken, fits .within .0, fits .flips)
+    (sym (at-moves .moves .ensures _ _) ∙ c .before .before .if1 .taken, fits .within .0, fits .flips)
 
 loop-less : tie.Need-loop-less Inv-loop μ-loop
-loop-less c = omega (arith, c .before .before .before .before .before .before .before .before .before .before .before .before .loop-test .taken)
+loop-less c =
+    let in-loop = c .before .before .before .before .before .before .before .before .before .before .before .before in
+    omega (arith, in-loop .loop-test .taken)
 
 loop-again : tie.Need-loop-again Inv-loop μ-loop
 loop-again c =
-    let loop = c .before .before .before .before .before .before .before .before .before .before .before .before .before .loop in
-    let bytes = now (c .before .before .before .before .before .before .before .before .before .before .before .before .before .before .before .before .before .before .before .args .gates) in
+    let at-move-wires = c .before .before .before .before in
+    let in-loop = at-move-wires .before .before .before .before .before .before .before .before in
+    let at-loop = in-loop .before in
+    let start = at-loop .before .before .before .before .before .before in
+    let loop = at-loop .loop in
+    let bytes = now (start .args .gates) in
     let i = loop .i in
-    let some = c .before .before .before .before .before .before .before .before .before .before .before .before .loop-test .taken in
+    let some = in-loop .loop-test .taken in
     let first = gates-from bytes i (omega (arith, some, loop .inv .0, loop .inv .1)) in
     let run = rw first at (loop .inv .2) in
     let fits = first-fit (gateAt bytes i ∷ []) _ run in
-    let moved = c .before .before .before .before .move-wires in
+    let moved = at-move-wires .move-wires in
     let kept = moved .kept .1 .1 .1 in
     let leaves = moves-leaves (loop .now) (gateAt bytes i) _ _ _ fits (moved .ensures) in
     let left =
@@ -81,25 +91,36 @@ loop-again c =
 
 run-gate-requires : tie.Need-run-gate-requires Inv-loop μ-loop
 run-gate-requires c κs =
-    let loop = c .before .before .before .before .before .before .before .before .before .before .loop in
-    let bytes = now (c .before .before .before .before .before .before .before .before .before .before .before .before .before .before .before .before .args .gates) in
-    let first = gates-from bytes (loop .i) (omega (arith, c .before .before .before .before .before .before .before .before .before .loop-test .taken, loop .inv .0, loop .inv .1)) in
+    let at-if1 = c .before .before .before .before in
+    let at-moves = at-if1 .before in
+    let in-loop = at-moves .before .before .before .before in
+    let at-loop = in-loop .before in
+    let start = at-loop .before .before .before .before .before .before in
+    let loop = at-loop .loop in
+    let bytes = now (start .args .gates) in
+    let first = gates-from bytes (loop .i) (omega (arith, in-loop .loop-test .taken, loop .inv .0, loop .inv .1)) in
     let fits = first-fit (gateAt bytes (loop .i) ∷ []) _ (rw first at (loop .inv .2)) in
-    (sym (c .before .before .before .before .before .moves .ensures _ _) ∙ c .before .before .before .before .if1 .left, fits)
+    (sym (at-moves .moves .ensures _ _) ∙ at-if1 .if1 .left, fits)
 
 loop-less-2 : tie.Need-loop-less-2 Inv-loop μ-loop
-loop-less-2 c = omega (arith, c .before .before .before .before .before .before .before .before .before .before .before .before .before .before .before .before .before .before .loop-test .taken)
+loop-less-2 c =
+    let in-loop = c .before .before .before .before .before .before .before .before .before .before .before .before .before .before .before .before .before .before in
+    omega (arith, in-loop .loop-test .taken)
 
 loop-again-2 : tie.Need-loop-again-2 Inv-loop μ-loop
 loop-again-2 c =
-    let loop = c .before .before .before .before .before .before .before .before .before .before .before .before .before .before .before .before .before .before .before .loop in
-    let bytes = now (c .before .before .before .before .before .before .before .before .before .before .before .before .before .before .before .before .before .before .before .before .before .before .before .before .before .args .gates) in
+    let at-run-gate = c .before .before .before .before .before .before .before .before in
+    let in-loop = at-run-gate .before .before .before .before .before .before .before .before .before .before in
+    let at-loop = in-loop .before in
+    let start = at-loop .before .before .before .before .before .before in
+    let loop = at-loop .loop in
+    let bytes = now (start .args .gates) in
     let i = loop .i in
-    let some = c .before .before .before .before .before .before .before .before .before .before .before .before .before .before .before .before .before .before .loop-test .taken in
+    let some = in-loop .loop-test .taken in
     let first = gates-from bytes i (omega (arith, some, loop .inv .0, loop .inv .1)) in
-    let kept = c .before .before .before .before .before .before .before .before .run-gate .kept .1 .1 .1 .1 in
+    let kept = at-run-gate .run-gate .kept .1 .1 .1 .1 in
     let left =
-    one-run (gateAt bytes i) (gatesIn (drop (i + 3) bytes)) (loop .now) (rw first at (loop .inv .2)) (c .before .before .before .before .before .before .before .before .run-gate .ensures)
+    one-run (gateAt bytes i) (gatesIn (drop (i + 3) bytes)) (loop .now) (rw first at (loop .inv .2)) (at-run-gate .run-gate .ensures)
     (record { wires = kept .0; flips = kept .1 .0; sets = kept .1 .1 .0; coeffs = kept .1 .1 .1 .0 })
     in
     (omega (arith, some, loop .inv .0, loop .inv .1), omega (arith, some, loop .inv .0, loop .inv .1), left)
@@ -119,7 +140,8 @@ same-length-4 c = c .before .loop .inv .2 .long .coeffs
 returns : tie.Need-returns Inv-loop μ-loop
 unfolding raws
 returns c =
-    let none = drop-of-length-le (now (c .before .before .before .before .before .before .before .args .gates)) (c .loop-test .left) in
+    let start = c .before .before .before .before .before .before .before in
+    let none = drop-of-length-le (now (start .args .gates)) (c .loop-test .left) in
     all-run (rw none at (c .before .loop .inv .2))
 
 pub forwards-spec : {M : Type 1} → statement M

@@ -16,12 +16,14 @@ wire-requires c κs =
 
 wire-requires-2 : tie.Need-wire-requires-2
 wire-requires-2 c κs =
-    let pre = c .before .before .before .before .before .before .pre in
+    let start = c .before .before .before .before .before .before in
+    let pre = start .pre in
     (pre .within .0 .1, omega (arith, pre .within .0 .1, pre .flips))
 
 put-product-requires : tie.Need-put-product-requires
 put-product-requires c κs =
-    let pre = c .before .before .before .before .before .before .before .before .before .pre in
+    let start = c .before .before .before .before .before .before .before .before .before in
+    let pre = start .pre in
     unfold tally roomFor in (omega (arith, pre .sets), omega (arith, pre .coeffs))
 
 same-length : tie.Need-same-length
@@ -32,17 +34,18 @@ same-length-2 c = search needs
 
 returns : tie.Need-returns
 returns c =
-    let at-phase = c .before .before .before .before in
-    let at-wire = c .before .before .before .before .before .before .before .before in
-    let at-start = c .before .before .before .before .before .before .before .before .before .before .before .before .before .before in
-    let a = at-start .args in
-    let pre = at-start .pre in
-    let phase = at-phase .put-product in
+    let at-put-product = c .before .before .before .before in
+    let at-wire2 = at-put-product .before .before .before in
+    let at-wire = at-wire2 .before in
+    let start = at-wire .before .before .before .before .before .before in
+    let a = start .args in
+    let pre = start .pre in
+    let phase = at-put-product .put-product in
     controlled-z-leaves (a .run) (a .a) (a .b) (lent (a .ws) (a .fs) (a .sets) (a .coeffs)) (at-wire .wire .result)
-    (c .before .before .before .before .before .before .before .wire2 .result) (phase .result)
+    (at-wire2 .wire2 .result) (phase .result)
     (pre .started)
     (at-wire .wire .ensures)
-    (c .before .before .before .before .before .before .before .wire2 .ensures)
+    (at-wire2 .wire2 .ensures)
     (phase .ensures)
 
 pub controlled-z-spec : {M : Type 1} → statement M

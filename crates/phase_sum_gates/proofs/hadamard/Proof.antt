@@ -19,22 +19,26 @@ single-requires c κs =
 
 wire-requires : tie.Need-wire-requires
 wire-requires c κs =
-    let pre = c .before .before .before .before .before .before .before .before .pre in
+    let start = c .before .before .before .before .before .before .before .before in
+    let pre = start .pre in
     (pre .within .0, omega (arith, pre .within .0, pre .flips))
 
 put-product-requires : tie.Need-put-product-requires
 put-product-requires c κs =
-    let pre = c .before .before .before .before .before .before .before .before .before .before .before .pre in
+    let start = c .before .before .before .before .before .before .before .before .before .before .before in
+    let pre = start .pre in
     unfold tally roomFor in (omega (arith, pre .sets), omega (arith, pre .coeffs))
 
 set-wire-requires : tie.Need-set-wire-requires
 set-wire-requires c κs =
-    let pre = c .before .before .before .before .before .before .before .before .before .before .before .before .before .before .before .before .before .before .pre in
+    let start = c .before .before .before .before .before .before .before .before .before .before .before .before .before .before .before .before .before .before in
+    let pre = start .pre in
     (pre .within .0, omega (arith, pre .within .0, pre .flips))
 
 add-t26 : tie.Need-add-t26
 add-t26 c =
-    let pre = c .before .before .before .before .before .before .before .before .before .before .before .before .before .before .before .before .before .before .before .before .before .before .before .pre in
+    let start = c .before .before .before .before .before .before .before .before .before .before .before .before .before .before .before .before .before .before .before .before .before .before .before in
+    let pre = start .pre in
     unfold tally oneQubitKind in omega (arith, pre .variables)
 
 same-length : tie.Need-same-length
@@ -51,20 +55,21 @@ same-length-4 c = search needs
 
 returns : tie.Need-returns
 returns c =
-    let at-set = c .before .before .before .before in
-    let at-phase = c .before .before .before .before .before .before .before .before .before .before .before in
-    let at-wire = c .before .before .before .before .before .before .before .before .before .before .before .before .before .before in
-    let at-start = c .before .before .before .before .before .before .before .before .before .before .before .before .before .before .before .before .before .before .before .before .before .before .before in
-    let a = at-start .args in
-    let pre = at-start .pre in
-    let phase = at-phase .put-product in
+    let at-set-wire = c .before .before .before .before in
+    let at-put-product = at-set-wire .before .before .before .before .before .before .before in
+    let at-wire = at-put-product .before .before .before in
+    let at-single = at-wire .before .before .before in
+    let start = at-single .before .before .before .before .before .before in
+    let a = start .args in
+    let pre = start .pre in
+    let phase = at-put-product .put-product in
     hadamard-leaves (a .run) (a .q) (lent (a .ws) (a .fs) (a .sets) (a .coeffs)) _ _ (at-wire .wire .result) _ (phase .result) _
     (pre .started)
     refl
     (at-wire .wire .ensures)
-    (ap of (c .before .before .before .before .before .before .before .before .before .before .before .before .before .before .before .before .before .single .ensures))
+    (ap of (at-single .single .ensures))
     (phase .ensures)
-    (at-set .set-wire .ensures)
+    (at-set-wire .set-wire .ensures)
 
 pub hadamard-spec : {M : Type 1} → statement M
 hadamard-spec =

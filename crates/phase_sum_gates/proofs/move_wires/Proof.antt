@@ -26,8 +26,9 @@ returns c = rw (c .before .before .before .before .before .if1 .taken) (c .befor
 
 add-wire-requires : tie.Need-add-wire-requires
 add-wire-requires c κs =
-    let a = c .before .before .before .before .before .before .args in
-    let pre = c .before .before .before .before .before .before .pre in
+    let start = c .before .before .before .before .before .before in
+    let a = start .args in
+    let pre = start .pre in
     let within = bytes-within _ (a .kind) (a .a) (a .b) (pre .1) in
     (within .0, within .1 (omega (arith, c .before .before .if2 .taken)), pre .2)
 
@@ -39,14 +40,19 @@ same-length-4 c = search needs
 
 returns-2 : tie.Need-returns-2
 unfolding gateOf
-returns-2 c = rw (c .before .before .before .before .before .before .before .if2 .taken) (c .before .before .before .before .add-wire .ensures)
+returns-2 c =
+    let at-add-wire = c .before .before .before .before in
+    let at-if2 = at-add-wire .before .before .before in
+    rw (at-if2 .if2 .taken) (at-add-wire .add-wire .ensures)
 
 swap-wires-requires : tie.Need-swap-wires-requires
 swap-wires-requires c κs =
-    let a = c .before .before .before .before .before .before .args in
-    let pre = c .before .before .before .before .before .before .pre in
+    let at-if1 = c .before .before .before in
+    let start = at-if1 .before .before .before in
+    let a = start .args in
+    let pre = start .pre in
     let within = bytes-within _ (a .kind) (a .a) (a .b) (pre .1) in
-    let above = kind-moves (a .kind) (a .a) (a .b) (pre .0) (c .before .before .before .if1 .left) (c .before .before .if2 .left) in
+    let above = kind-moves (a .kind) (a .a) (a .b) (pre .0) (at-if1 .if1 .left) (c .before .before .if2 .left) in
     (within .0, within .1 (omega (arith, above)), pre .2)
 
 same-length-5 : tie.Need-same-length-5
@@ -57,9 +63,13 @@ same-length-6 c = search needs
 
 returns-3 : tie.Need-returns-3
 returns-3 c =
-    let a = c .before .before .before .before .before .before .before .before .before .before .before .args in
-    let above = kind-moves (a .kind) (a .a) (a .b) (c .before .before .before .before .before .before .before .before .before .before .before .pre .0) (c .before .before .before .before .before .before .before .before .if1 .left) (c .before .before .before .before .before .before .before .if2 .left) in
-    rw (kind-swap (a .kind) (a .a) (a .b) above) (c .before .before .before .before .swap-wires .ensures)
+    let at-swap-wires = c .before .before .before .before in
+    let at-if2 = at-swap-wires .before .before .before in
+    let at-if1 = at-if2 .before in
+    let start = at-if1 .before .before .before in
+    let a = start .args in
+    let above = kind-moves (a .kind) (a .a) (a .b) (start .pre .0) (at-if1 .if1 .left) (at-if2 .if2 .left) in
+    rw (kind-swap (a .kind) (a .a) (a .b) above) (at-swap-wires .swap-wires .ensures)
 
 pub move-wires-spec : {M : Type 1} → statement M
 move-wires-spec =

@@ -29,7 +29,8 @@ put-phase-requires c κs = search needs
 
 put-phase-requires-2 : tie.Need-put-phase-requires-2
 put-phase-requires-2 c κs =
-    let left = room-left (c .before .before .before .before .before .before) in
+    let at-put-phase = c .before .before .before .before .before .before in
+    let left = room-left (at-put-phase) in
     (omega (arith, left .0), omega (arith, left .1))
 
 both-requires : tie.Need-both-requires
@@ -38,9 +39,10 @@ both-requires c κs = search needs
 put-phase-requires-3 : tie.Need-put-phase-requires-3
 unfolding putBehind
 put-phase-requires-3 c κs =
-    let p = c .before .before .before .before .before .before .before .put-phase2 in
-    let s = c .before .before .before .before .before .before .before .before .before .before .before .before .before .before in
-    let left = room-left s in
+    let at-put-phase2 = c .before .before .before .before .before .before .before in
+    let at-put-phase = at-put-phase2 .before .before .before .before .before .before .before in
+    let p = at-put-phase2 .put-phase2 in
+    let left = room-left at-put-phase in
     let count = stored-count (_ ∷ []) (omega (arith, left .0)) (omega (arith, left .1)) (p .ensures .terms) in
     (omega (arith, count, left .0, p .kept .1 .1 .1 .0), omega (arith, count, left .1, p .kept .1 .1 .1 .1 .0))
 

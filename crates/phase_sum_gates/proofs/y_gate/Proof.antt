@@ -11,17 +11,20 @@ use Rattle.phase_sum_gates.proofs.y_gate.Tie as tie
 
 wire-requires : tie.Need-wire-requires
 wire-requires c κs =
-    let pre = c .before .before .before .before .before .before .pre in
+    let start = c .before .before .before .before .before .before in
+    let pre = start .pre in
     (pre .within .0, omega (arith, pre .within .0, pre .flips))
 
 put-phase-requires : tie.Need-put-phase-requires
 put-phase-requires c κs =
-    let pre = c .before .before .before .before .before .before .before .before .before .pre in
+    let start = c .before .before .before .before .before .before .before .before .before in
+    let pre = start .pre in
     unfold tally roomFor in (omega (arith, pre .sets), omega (arith, pre .coeffs))
 
 flip-wire-requires : tie.Need-flip-wire-requires
 flip-wire-requires c κs =
-    let pre = c .before .before .before .before .before .before .before .before .before .before .before .before .before .before .before .pre in
+    let start = c .before .before .before .before .before .before .before .before .before .before .before .before .before .before .before in
+    let pre = start .pre in
     (pre .within .0, omega (arith, pre .within .0, pre .flips))
 
 add-requires : tie.Need-add-requires
@@ -38,19 +41,19 @@ same-length-3 c = search needs
 
 returns : tie.Need-returns
 returns c =
-    let at-flip = c .before .before .before in
-    let at-phase = c .before .before .before .before .before .before .before .before .before in
-    let at-wire = c .before .before .before .before .before .before .before .before .before .before .before .before in
-    let at-start = c .before .before .before .before .before .before .before .before .before .before .before .before .before .before .before .before .before .before .before in
-    let a = at-start .args in
-    let pre = at-start .pre in
-    let phase = at-phase .put-phase in
+    let at-flip-wire = c .before .before .before in
+    let at-put-phase = at-flip-wire .before .before .before .before .before .before in
+    let at-wire = at-put-phase .before .before .before in
+    let start = at-wire .before .before .before .before .before .before .before in
+    let a = start .args in
+    let pre = start .pre in
+    let phase = at-put-phase .put-phase in
     y-leaves (a .run) (a .q) (lent (a .ws) (a .fs) (a .sets) (a .coeffs)) _ (at-wire .wire .result) (phase .result)
     (c .add .result)
     (pre .started)
     (at-wire .wire .ensures)
     (phase .ensures)
-    (x-moved (a .q) _ _ (at-flip .flip-wire .ensures))
+    (x-moved (a .q) _ _ (at-flip-wire .flip-wire .ensures))
     (c .add .ensures)
 
 pub y-gate-spec : {M : Type 1} → statement M

@@ -44,18 +44,25 @@ same-length-4 c = search needs
 returns : tie.Need-returns
 unfolding replace takeOut
 returns c =
-    let a = c .before .before .before .before .before .before .before .before .before .before .before .before .before .before .before .before .before .before .before .before .before .before .before .before .before .before .before .before .before .before .before .before .args in
-    let stands = c .before .before .before .before .before .before .before .before .before .before .before .before .before .before .before .before .before .before .before .before .before .before .before .before .before .before .before .before .before .before .before .before .pre .2 in
+    let at-canonical = c .before .before .before .before in
+    let at-without2 = at-canonical .before .before .before in
+    let at-without = at-without2 .before in
+    let at-replace-unmerged = at-without .before .before .before .before .before in
+    let at-take-out-unmerged = at-replace-unmerged .before .before .before .before .before in
+    let at-replace-in-wires = at-take-out-unmerged .before .before .before .before .before .before in
+    let start = at-replace-in-wires .before .before .before .before .before .before .before .before in
+    let a = start .args in
+    let stands = start .pre .2 in
     let p = parityOf (a .p) in
     let l = lent (a .ws) (a .fs) (a .sets) (a .coeffs) in
-    let sent = c .before .before .before .before .before .before .before .before .before .before .before .before .before .replace-unmerged .ensures in
+    let sent = at-replace-unmerged .replace-unmerged .ensures in
     became (replace (a .z) p (takeOut (a .y) (sumOf (a .sum) l))) _ l _
-    (joined-out (a .y) (a .z) p (a .sum .phase) (stands .sets) (stands .coeffs) (c .before .before .before .before .before .before .before .before .before .before .before .before .before .before .before .before .before .before .take-out-unmerged .ensures)
+    (joined-out (a .y) (a .z) p (a .sum .phase) (stands .sets) (stands .coeffs) (at-take-out-unmerged .take-out-unmerged .ensures)
     (rebuilt (λ u. replaceIn (a .z) p (of u)) (a .sum .phase) (omega arith) (stands .coeffs) (sent .0) (sent .1)
-    (c .before .before .before .before .canonical .ensures)))
-    (c .before .before .before .before .before .before .before .before .before .before .before .before .before .before .before .before .before .before .before .before .before .before .before .before .replace-in-wires .ensures)
+    (at-canonical .canonical .ensures)))
+    (at-replace-in-wires .replace-in-wires .ensures)
     (rw
-    (c .before .before .before .before .before .before .before .without2 .ensures, c .before .before .before .before .before .before .before .before .without .ensures, members-without _ (a .z), members-without (setOf (a .sum .live)) (a .y)))
+    (at-without2 .without2 .ensures, at-without .without .ensures, members-without _ (a .z), members-without (setOf (a .sum .live)) (a .y)))
 
 pub join-out-spec : {M : Type 1} → statement M
 join-out-spec =

@@ -37,16 +37,21 @@ same-length-4 c = search needs
 returns : tie.Need-returns
 unfolding replace
 returns c =
-    let a = c .before .before .before .before .before .before .before .before .before .before .before .before .before .before .before .before .before .before .before .before .before .before .before .before .before .before .before .args in
-    let stands = c .before .before .before .before .before .before .before .before .before .before .before .before .before .before .before .before .before .before .before .before .before .before .before .before .before .before .before .pre .1 in
+    let at-canonical = c .before .before .before .before in
+    let at-without = at-canonical .before .before .before in
+    let at-replace-unmerged = at-without .before .before .before .before .before in
+    let at-replace-in-wires = at-replace-unmerged .before .before .before .before .before .before .before in
+    let start = at-replace-in-wires .before .before .before .before .before .before .before .before in
+    let a = start .args in
+    let stands = start .pre .1 in
     let p = parityOf (a .p) in
     let l = lent (a .ws) (a .fs) (a .sets) (a .coeffs) in
-    let sent = c .before .before .before .before .before .before .before .before .before .before .before .before .replace-unmerged .ensures in
+    let sent = at-replace-unmerged .replace-unmerged .ensures in
     became (replace (a .z) p (sumOf (a .sum) l)) _ l _
     (rebuilt (λ u. replaceIn (a .z) p (of u)) (a .sum .phase) (stands .sets) (stands .coeffs) (sent .0) (sent .1)
-    (c .before .before .before .before .canonical .ensures))
-    (c .before .before .before .before .before .before .before .before .before .before .before .before .before .before .before .before .before .before .before .replace-in-wires .ensures)
-    (rw (c .before .before .before .before .before .before .before .without .ensures) (members-without (setOf (a .sum .live)) (a .z)))
+    (at-canonical .canonical .ensures))
+    (at-replace-in-wires .replace-in-wires .ensures)
+    (rw (at-without .without .ensures) (members-without (setOf (a .sum .live)) (a .z)))
 
 pub replace-spec : {M : Type 1} → statement M
 replace-spec =

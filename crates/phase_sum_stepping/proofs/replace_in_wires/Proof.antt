@@ -36,32 +36,47 @@ wire-requires c κs =
     (c .before .before .loop-test .taken, omega (arith, c .before .before .loop-test .taken, inv .1, inv .2))
 
 replace-in-requires : tie.Need-replace-in-requires Inv-loop μ-loop
-replace-in-requires c κs = c .before .before .before .before .before .before .before .pre .0
+replace-in-requires c κs =
+    let start = c .before .before .before .before .before .before .before in
+    start .pre .0
 
 set-wire-requires : tie.Need-set-wire-requires Inv-loop μ-loop
 set-wire-requires c κs =
-    let inv = c .before .before .before .before .before .before .before .loop .inv in
-    (c .before .before .before .before .before .before .loop-test .taken, omega (arith, c .before .before .before .before .before .before .loop-test .taken, inv .1, inv .2))
+    let in-loop = c .before .before .before .before .before .before in
+    let at-loop = in-loop .before in
+    let inv = at-loop .loop .inv in
+    (in-loop .loop-test .taken, omega (arith, in-loop .loop-test .taken, inv .1, inv .2))
 
 add-q : tie.Need-add-q Inv-loop μ-loop
-add-q c = omega (arith, c .before .before .before .before .before .before .before .before .before .before .before .loop-test .taken)
+add-q c =
+    let in-loop = c .before .before .before .before .before .before .before .before .before .before .before in
+    omega (arith, in-loop .loop-test .taken)
 
 loop-less : tie.Need-loop-less Inv-loop μ-loop
-loop-less c = omega (arith, c .before .before .before .before .before .before .before .before .before .before .before .loop-test .taken, c .before .before .before .before .before .before .before .before .before .before .before .before .loop .inv .1)
+loop-less c =
+    let in-loop = c .before .before .before .before .before .before .before .before .before .before .before in
+    let at-loop = in-loop .before in
+    omega (arith, in-loop .loop-test .taken, at-loop .loop .inv .1)
 
 loop-again : tie.Need-loop-again Inv-loop μ-loop
 loop-again c =
-    let a = c .before .before .before .before .before .before .before .before .before .before .before .before .before .before .before .args in
-    let loop = c .before .before .before .before .before .before .before .before .before .before .before .before .loop in
+    let at-set-wire = c .before .before .before .before in
+    let at-replace-in = at-set-wire .before .before .before in
+    let at-wire = at-replace-in .before in
+    let in-loop = at-wire .before .before .before in
+    let at-loop = in-loop .before in
+    let start = at-loop .before .before .before in
+    let a = start .args in
+    let loop = at-loop .loop in
     let inv = loop .inv in
-    let kept = c .before .before .before .before .set-wire .kept in
-    let here = c .before .before .before .before .before .before .before .before .before .before .before .loop-test .taken in (
+    let kept = at-set-wire .set-wire .kept in
+    let here = in-loop .loop-test .taken in (
       omega (arith, here, inv .1),
       kept .0 ∙ inv .1,
       kept .1 .0 ∙ inv .2,
       inv .3,
       inv .4,
-      rw (c .before .before .before .before .set-wire .ensures, c .before .before .before .before .before .before .before .replace-in .ensures, c .before .before .before .before .before .before .before .before .wire .ensures)
+      rw (at-set-wire .set-wire .ensures, at-replace-in .replace-in .ensures, at-wire .wire .ensures)
           (front-mapped (replaceIn (a .z) (parityOf (a .p))) (of 0) (inv .5) (omega (arith, here, inv .1, inv .4))),
     )
 

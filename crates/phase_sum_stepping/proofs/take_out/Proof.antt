@@ -34,8 +34,13 @@ same-length-2 c = search needs
 returns : tie.Need-returns
 unfolding takeOut
 returns c ws fs =
-    let a = c .before .before .before .before .before .before .before .before .before .before .before .before .before .before .before .before .args in
-    let pre = c .before .before .before .before .before .before .before .before .before .before .before .before .before .before .before .before .pre in
+    let at-canonical = c .before .before .before .before in
+    let at-add = at-canonical .before .before .before in
+    let at-without = at-add .before in
+    let at-take-out-unmerged = at-without .before .before .before in
+    let start = at-take-out-unmerged .before .before .before .before .before in
+    let a = start .args in
+    let pre = start .pre in
     let ss = now (a .sets) in
     let cs = now (a .coeffs) in
     let phase = a .sum .phase in
@@ -43,11 +48,11 @@ returns c ws fs =
     let l = slices ws fs ss cs in
     became (takeOut (a .y) (sumOf (a .sum) l)) _ l _
     (rebuilt (λ u. of (outOf (a .y) u)) phase (pre .1) (pre .2)
-    (rw (sent-constant (outOf (a .y)) (phase .constant) (held n ss cs)) (omega (arith, c .before .before .before .before .before .before .before .add .ensures)))
-    (sent-stored (outOf (a .y)) n ss cs _ (pre .1) (pre .2) (c .before .before .before .before .before .before .before .before .before .before .before .take-out-unmerged .ensures))
-    (c .before .before .before .before .canonical .ensures))
+    (rw (sent-constant (outOf (a .y)) (phase .constant) (held n ss cs)) (omega (arith, at-add .add .ensures)))
+    (sent-stored (outOf (a .y)) n ss cs _ (pre .1) (pre .2) (at-take-out-unmerged .take-out-unmerged .ensures))
+    (at-canonical .canonical .ensures))
     refl
-    (rw (c .before .before .before .before .before .before .before .before .without .ensures) (members-without (setOf (a .sum .live)) (a .y)))
+    (rw (at-without .without .ensures) (members-without (setOf (a .sum .live)) (a .y)))
 
 pub take-out-spec : {M : Type 1} → statement M
 take-out-spec =

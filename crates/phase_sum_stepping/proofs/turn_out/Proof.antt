@@ -34,7 +34,8 @@ add-requires c κs = search needs
 
 canonical-requires : tie.Need-canonical-requires
 canonical-requires c κs =
-    let count = stored-count (_ ∷ []) (omega arith) (omega arith) (c .before .before .before .before .before .before .before .before .before .append .ensures) in
+    let at-append = c .before .before .before .before .before .before .before .before .before in
+    let count = stored-count (_ ∷ []) (omega arith) (omega arith) (at-append .append .ensures) in
     (omega arith, omega arith)
 
 same-length : tie.Need-same-length
@@ -46,18 +47,26 @@ same-length-2 c = search needs
 returns : tie.Need-returns
 unfolding turned takeOut
 returns c ws fs =
-    let a = c .before .before .before .before .before .before .before .before .before .before .before .before .before .before .before .before .before .before .before .before .before .before .before .before .before .args in
-    let pre = c .before .before .before .before .before .before .before .before .before .before .before .before .before .before .before .before .before .before .before .before .before .before .before .before .before .pre in
+    let at-canonical = c .before .before .before .before in
+    let at-add = at-canonical .before .before .before in
+    let at-turn-constant = at-add .before in
+    let at-without = at-turn-constant .before in
+    let at-append = at-without .before .before .before .before .before in
+    let at-turn-coeff = at-append .before in
+    let at-take-out-unmerged = at-turn-coeff .before .before .before .before .before in
+    let start = at-take-out-unmerged .before .before .before .before .before in
+    let a = start .args in
+    let pre = start .pre in
     let phase = a .sum .phase in
     let l = slices ws fs (now (a .sets)) (now (a .coeffs)) in
     became (turned (a .c) (setOf (a .l)) (takeOut (a .y) (sumOf (a .sum) l))) _ l _
     (turned-out (a .y) (a .c) (setOf (a .l)) phase (omega (arith, pre .1)) (omega (arith, pre .2))
-    (rw (← c .before .before .before .before .before .before .before .before .turn-constant .ensures) (c .before .before .before .before .before .before .before .add .ensures))
-    (c .before .before .before .before .before .before .before .before .before .before .before .before .before .before .before .before .before .before .before .before .take-out-unmerged .ensures)
-    (rw (c .before .before .before .before .before .before .before .before .before .before .before .before .before .before .before .turn-coeff .ensures) at (c .before .before .before .before .before .before .before .before .before .before .before .before .before .before .append .ensures))
-    (c .before .before .before .before .canonical .ensures))
+    (rw (← at-turn-constant .turn-constant .ensures) (at-add .add .ensures))
+    (at-take-out-unmerged .take-out-unmerged .ensures)
+    (rw (at-turn-coeff .turn-coeff .ensures) at (at-append .append .ensures))
+    (at-canonical .canonical .ensures))
     refl
-    (rw (c .before .before .before .before .before .before .before .before .before .without .ensures) (members-without (setOf (a .sum .live)) (a .y)))
+    (rw (at-without .without .ensures) (members-without (setOf (a .sum .live)) (a .y)))
 
 pub turn-out-spec : {M : Type 1} → statement M
 turn-out-spec =

@@ -30,10 +30,10 @@ same-length-2 c = search needs
 
 returns : tie.Need-returns
 returns c =
-    let at-read = c .before .before .before .before .before .before .before in
-    let a = start at-read .args in
+    let at-compare-read = c .before .before .before .before .before .before .before in
+    let a = start at-compare-read .args in
     let answer = Refused (c .before .refusal .given .0 .0) in
-    let found = rw (c .before .refusal .given .1) at (at-read .compare-read .ensures) in
+    let found = rw (c .before .refusal .given .1) at (at-compare-read .compare-read .ensures) in
     let clauses =
     clauses-said (now (a .first)) (now (a .second)) (length (now (a .sets))) (length (now (a .coeffs))) answer (found .0) in
     (found .0, (found .1 .0, clauses))
@@ -46,10 +46,10 @@ same-length-4 c = search needs
 
 returns-2 : tie.Need-returns-2
 returns-2 c =
-    let at-read = c .before .before .before .before .before .before .before in
-    let a = start at-read .args in
+    let at-compare-read = c .before .before .before .before .before .before .before in
+    let a = start at-compare-read .args in
     let answer = Compared (c .before .outcome .given .0 .0) in
-    let found = rw (c .before .outcome .given .1) at (at-read .compare-read .ensures) in
+    let found = rw (c .before .outcome .given .1) at (at-compare-read .compare-read .ensures) in
     let clauses =
     clauses-said (now (a .first)) (now (a .second)) (length (now (a .sets))) (length (now (a .coeffs))) answer (found .0) in
     (found .0, (found .1 .0, clauses))

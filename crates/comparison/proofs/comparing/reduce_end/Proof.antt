@@ -37,7 +37,10 @@ same-length-4 c = search needs
 
 returns-2 : tie.Need-returns-2
 unfolding reduceEnd
-returns-2 c = record { end = rw (c .before .before .before .before .before .before .before .before .before .before .before .before .before .before .before .if1 .left) (c .before .before .before .before .before .before .before .before .reduce .ensures .end); sized = c .before .before .before .before .before .before .before .before .reduce .ensures .sized }
+returns-2 c =
+    let at-reduce = c .before .before .before .before .before .before .before .before in
+    let at-if1 = at-reduce .before .before .before .before .before .before .before in
+    record { end = rw (at-if1 .if1 .left) (at-reduce .reduce .ensures .end); sized = at-reduce .reduce .ensures .sized }
 
 pub reduce-end-spec : {M : Type 1} → statement M
 reduce-end-spec =

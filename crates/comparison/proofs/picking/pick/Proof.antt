@@ -118,9 +118,9 @@ same-length-4 c = search needs
 
 returns-2 : tie.Need-returns-2
 returns-2 c =
-    let at-read = c .before .before .before .before .before .before .before in
-    let args = start at-read .args in
-    let read = at-read .compare-read in
+    let at-compare-read = c .before .before .before .before .before .before .before in
+    let args = start at-compare-read .args in
+    let read = at-compare-read .compare-read in
     picks (args .first .now) (args .second .now) (args .sets .now) (args .coeffs .now) _ _ (answerOf (read .result)) nothing _ _ _ _
     (read .ensures .0)
     (read .ensures .1 .0)

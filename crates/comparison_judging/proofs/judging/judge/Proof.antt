@@ -21,7 +21,8 @@ outcome-requires c κs = search needs
 returns : tie.Need-returns
 unfolding judge
 returns c ws fs =
-    rw (c .before .before .if1 .taken, ← c .before .blocked-input .ensures) (c .outcome .ensures (slices ws fs [] []) (c .before .before .before .before .before .before .before .before .args .end .by))
+    let start = c .before .before .before .before .before .before .before .before in
+    rw (c .before .before .if1 .taken, ← c .before .blocked-input .ensures) (c .outcome .ensures (slices ws fs [] []) (start .args .end .by))
 
 is-empty-requires : tie.Need-is-empty-requires
 is-empty-requires c κs = search needs

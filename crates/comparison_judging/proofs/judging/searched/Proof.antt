@@ -25,7 +25,8 @@ outcome-requires c κs = search needs
 
 returns : tie.Need-returns
 returns c ws fs by =
-    c .outcome .ensures (slices ws fs [] []) by ∙ sym (searched-uneven (c .before .before .before .before .before .before .args .n) (ended (c .before .before .before .before .before .before) ws fs by) (c .before .if1 .taken))
+    let start = c .before .before .before .before .before .before in
+    c .outcome .ensures (slices ws fs [] []) by ∙ sym (searched-uneven (start .args .n) (ended (start) ws fs by) (c .before .if1 .taken))
 
 cast-search : tie.Need-cast-search
 cast-search c = search needs
@@ -34,14 +35,18 @@ search-requires : tie.Need-search-requires
 search-requires c κs = search needs
 
 cast-outcome : tie.Need-cast-outcome
-cast-outcome c = omega (arith, found-below _ _ _ (c .before .before .before .before .before .before .before .pre .0) (c .before .search .ensures) (c .if2 .taken))
+cast-outcome c =
+    let start = c .before .before .before .before .before .before .before in
+    omega (arith, found-below _ _ _ (start .pre .0) (c .before .search .ensures) (c .if2 .taken))
 
 outcome-requires-2 : tie.Need-outcome-requires-2
 outcome-requires-2 c κs = search needs
 
 returns-2 : tie.Need-returns-2
 returns-2 c ws fs by =
-    let found = searched-found (c .before .before .before .before .before .before .before .before .args .n) (ended (c .before .before .before .before .before .before .before .before) ws fs by) (c .before .before .search .result) (c .before .before .before .if1 .left) in
+    let at-if1 = c .before .before .before in
+    let start = at-if1 .before .before .before .before .before in
+    let found = searched-found (start .args .n) (ended (start) ws fs by) (c .before .before .search .result) (at-if1 .if1 .left) in
     c .outcome2 .ensures (slices ws fs [] []) by ∙ sym (found (c .before .before .search .ensures) (c .before .if2 .taken))
 
 outcome-requires-3 : tie.Need-outcome-requires-3
@@ -49,7 +54,9 @@ outcome-requires-3 c κs = search needs
 
 returns-3 : tie.Need-returns-3
 returns-3 c ws fs by =
-    let none-found = searched-none (c .before .before .before .before .before .before .before .before .args .n) (ended (c .before .before .before .before .before .before .before .before) ws fs by) (c .before .before .search .result) (c .before .before .before .if1 .left) in
+    let at-if1 = c .before .before .before in
+    let start = at-if1 .before .before .before .before .before in
+    let none-found = searched-none (start .args .n) (ended (start) ws fs by) (c .before .before .search .result) (at-if1 .if1 .left) in
     c .outcome3 .ensures (slices ws fs [] []) by ∙ sym (none-found (c .before .before .search .ensures) (c .before .if2 .left))
 
 pub searched-spec : {M : Type 1} → statement M

@@ -41,8 +41,10 @@ weight-three-requires c κs = search needs
 
 returns-4 : tie.Need-returns-4
 returns-4 c =
-    first-of-three _ _ _ (c .before .before .before .before .before .before .before .weight-one .ensures) (omega arith) _
-    (c .before .before .before .before .before .weight-two .ensures) (omega arith) _
+    let at-weight-two = c .before .before .before .before .before in
+    let at-weight-one = at-weight-two .before .before in
+    first-of-three _ _ _ (at-weight-one .weight-one .ensures) (omega arith) _
+    (at-weight-two .weight-two .ensures) (omega arith) _
     (c .weight-three .ensures)
 
 pub search-spec : {M : Type 1} → statement M

@@ -64,10 +64,12 @@ only-requires-3 c κs = search needs
 
 add-input : tie.Need-add-input Inv-loop2 μ-loop2 Inv-loop μ-loop Inv-search μ-search
 add-input c =
+    let at-loop = c .before .before .before .before .before in
+    let at-search = at-loop .before .before .before in
     omega (
       arith,
-      power-small (c .before .before .before .before .before .before .before .before .search .i) (omega arith),
-      power-small (c .before .before .before .before .before .loop .j) (omega arith),
+      power-small (at-search .search .i) (omega arith),
+      power-small (at-loop .loop .j) (omega arith),
       power-small (c .before .before .loop2 .k) (omega arith),
     )
 
@@ -119,12 +121,15 @@ returns c = rw (c .before .search .inv .0) (answer-none _ 3 _ _ (omega arith) (c
 
 returns-2 : tie.Need-returns-2 Inv-loop2 μ-loop2 Inv-loop μ-loop Inv-search μ-search
 returns-2 c =
+    let at-loop2 = c .before .before .before .before in
+    let at-loop = at-loop2 .before .before .before in
+    let at-search = at-loop .before .before .before in
     answer-found _ 3 _ _
-    (omega (arith, pow-pos (c .before .before .before .before .before .before .before .before .before .before .search .i)))
+    (omega (arith, pow-pos (at-search .search .i)))
     (found-more _ 0 _ 2 _ (omega arith)
-    (c .before .before .before .before .before .before .before .before .before .before .search .inv .2) _ _ (omega arith)
-    (found-more _ _ _ 1 _ (omega arith) (c .before .before .before .before .before .before .before .loop .inv .2) _ _ (omega arith)
-    (found-more _ _ _ 0 _ (omega arith) (c .before .before .before .before .loop2 .inv .2) _ _ (omega arith)
+    (at-search .search .inv .2) _ _ (omega arith)
+    (found-more _ _ _ 1 _ (omega arith) (at-loop .loop .inv .2) _ _ (omega arith)
+    (found-more _ _ _ 0 _ (omega arith) (at-loop2 .loop2 .inv .2) _ _ (omega arith)
     (found-itself _ _ _ (sym (c .before .differs .ensures) ∙ c .if1 .taken)))))
 
 pub weight-three-spec : {M : Type 1} → statement M

@@ -49,9 +49,11 @@ differs-requires c κs = search needs
 
 returns : tie.Need-returns Inv-loop2 μ-loop2 Inv-loop μ-loop
 returns c =
-    answer-found _ 2 _ _ (omega (arith, pow-pos (c .before .before .before .before .before .before .before .loop .i)))
-    (found-more _ 0 _ 1 _ (omega arith) (c .before .before .before .before .before .before .before .loop .inv .1) _ _ (omega arith)
-    (found-more _ _ _ 0 _ (omega arith) (c .before .before .before .before .loop2 .inv .1) _ _ (omega arith)
+    let at-loop2 = c .before .before .before .before in
+    let at-loop = at-loop2 .before .before .before in
+    answer-found _ 2 _ _ (omega (arith, pow-pos (at-loop .loop .i)))
+    (found-more _ 0 _ 1 _ (omega arith) (at-loop .loop .inv .1) _ _ (omega arith)
+    (found-more _ _ _ 0 _ (omega arith) (at-loop2 .loop2 .inv .1) _ _ (omega arith)
     (found-itself _ _ _ (sym (c .before .differs .ensures) ∙ c .if1 .taken))))
 
 add-j : tie.Need-add-j Inv-loop2 μ-loop2 Inv-loop μ-loop
