@@ -5,7 +5,6 @@
 // hexadecimal, or a list of gates on n qubits, as `2:h0 t1 c01` (calls_records). What is printed: the name, what the call answered, and what
 // the lent buffer or workspaces hold afterwards. A row that cannot be read prints `bad row`.
 mod lines;
-mod pairs;
 mod rows;
 
 use crate::lines::Lines;

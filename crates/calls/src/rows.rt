@@ -1,5 +1,4 @@
 // One row: its parts, and the call that it names.
-use crate::pairs;
 use calls_records::MOST_BYTES;
 use calls_records::front;
 use calls_text::Bytes;
@@ -16,14 +15,14 @@ fn pair(picks: bool, numbers: &[u8], first: &[u8], second: &[u8]) {
         return;
     };
     if check::same(second, b"=") {
-        pairs::run(picks, numbers, front(&a, size), front(&a, size));
+        calls_pairs::run(picks, numbers, front(&a, size), front(&a, size));
         return;
     }
     let Bytes::Count(other) = calls_records::bytes_of(second, &mut b) else {
         print::bad();
         return;
     };
-    pairs::run(picks, numbers, front(&a, size), front(&b, other));
+    calls_pairs::run(picks, numbers, front(&a, size), front(&b, other));
 }
 
 // The call of a name.

@@ -1,4 +1,4 @@
-// Rows of calls on a pair. The numbers say how many words and bytes of the workspaces are lent, and with what all their places begin.
+// Rows of the calls on a pair, compare and pick, for the program calls. The numbers say how many words and bytes of the workspaces are lent, and with what all their places begin.
 use calls_text::are_below;
 use calls_text::are_numbers;
 use calls_text::byte;
@@ -105,7 +105,7 @@ fn is_well(numbers: &[u8]) -> bool {
 }
 
 // The call, and the workspaces afterwards.
-pub(crate) fn run<'a>(picks: bool, numbers: &[u8], first: &'a [u8], second: &'a [u8]) {
+pub fn run<'a>(picks: bool, numbers: &[u8], first: &'a [u8], second: &'a [u8]) {
     if !is_well(numbers) {
         print::bad();
         return;
