@@ -1,8 +1,8 @@
 #!/usr/bin/env python3
-"""Holds the engine to the independent implementation beside this file: the program calls, which drives every public call with rows of text,
-and the program compare, which reads two records.
+"""Holds the engine to the independent implementation beside this file: the programs record_calls and pair_calls, which drive every public
+call with rows of text, and the program compare, which reads two records.
 
-    rt check calls compare && python3 tests/against_reference.py [TIMES]
+    rt check record_calls pair_calls compare && python3 tests/against_reference.py [TIMES]
 
 Fixed cases at the limits come first, then random families (random_pairs.py) that reach every rule; TIMES multiplies the random cases. Up to
 5 qubits, equal and different are also held to exact dense columns. Every class of cases is counted. The run fails where a line differs or
@@ -63,20 +63,26 @@ class Check:
         return words
 
     def run_rows(self):
-        """All rows through one process."""
+        """All rows, each program's through one process."""
+        for name in call_rows.PROGRAMS:
+            self.run_through(name, [pair for pair in zip(self.rows, self.lines) if call_rows.program_of(pair[0]) == name])
+
+    def run_through(self, name, pairs):
+        """These rows, with the lines that they must give, through a program."""
         with tempfile.TemporaryFile() as given, tempfile.TemporaryFile() as printed:
-            given.write("".join(text + "\n" for text in self.rows).encode())
+            given.write("".join(text + "\n" for text, _ in pairs).encode())
             given.seek(0)
-            done = subprocess.run([program("calls")], stdin=given, stdout=printed)
+            done = subprocess.run([program(name)], stdin=given, stdout=printed)
             printed.seek(0)
             lines = printed.read().decode().splitlines()
         if done.returncode:
-            fail(f"calls ended with {done.returncode}")
-        for text, want, got in zip(self.rows, self.lines, lines):
+            fail(f"{name} ended with {done.returncode}")
+        for (text, want), got in zip(pairs, lines):
             if want != got:
                 fail(f"row\n{text}\nprinted\n{got}\nwanted\n{want}")
-        if lines[len(self.rows) :] != [f"rows {len(self.rows)}"]:
-            fail(f"calls printed {len(lines)} lines for {len(self.rows)} rows")
+        if lines[len(pairs) :] != [f"rows {len(pairs)}"]:
+            fail(f"{name} printed {len(lines)} lines for {len(pairs)} rows")
+        self.see(f"rows of {name}")
 
     def run_program(self, data, want=None):
         """The program compare on these bytes, held to the independent implementation and to the given line."""

@@ -1,5 +1,5 @@
-"""Rows of the program calls, and the line that each must give by the independent implementation beside this file. tests/README.md
-describes both.
+"""Rows of the programs record_calls and pair_calls, and the line that each must give by the independent implementation beside this file.
+tests/README.md describes both.
 """
 import re
 
@@ -169,7 +169,15 @@ def pick(numbers, first, second, events):
 
 READERS = {"check": check, "gates": gates, "read_report": read_report}
 BUILDERS = {"start": start, "add": add, "write_report": write_report}
-CALLS = {**READERS, **BUILDERS, "check_gate": check_gate, "inverse": inverse, "compare": compare, "pick": pick}
+PAIRS = {"compare": compare, "pick": pick}
+CALLS = {**READERS, **BUILDERS, "check_gate": check_gate, "inverse": inverse, **PAIRS}
+PROGRAMS = ("record_calls", "pair_calls")
+
+
+def program_of(row):
+    """The program that a row is for; one that names no call on a pair goes to the record layer's."""
+    parts = row.split(";")
+    return PROGRAMS[len(parts) > 1 and parts[1] in PAIRS]
 
 
 def answer(row, events=None):

@@ -1,5 +1,6 @@
 """The classes of cases that the cross-check must meet, each at least once."""
 import reference as ref
+from call_rows import PROGRAMS
 
 EVENTS = (
     "pin, constant 0",
@@ -90,4 +91,5 @@ CLASSES = (
     *ANSWERS,
     *(f"{call}: refused {k}" for call, numbers in REFUSALS.items() for k in numbers),
     *(f"program: {size} bytes" for size in (3082, 3083, 1000000)),
+    *(f"rows of {name}" for name in PROGRAMS),
 )

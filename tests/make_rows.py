@@ -1,10 +1,10 @@
 #!/usr/bin/env python3
-"""Writes the rows of the program calls and what it must print for them, from tests/rows.txt.
+"""Writes the rows of the programs record_calls and pair_calls and what they must print for them, from tests/rows.txt.
 
     python3 tests/make_rows.py [--check]
 
-The files go to crates/calls/stdin and stdout; the gate runs the program on the one and compares with the other. Every answer of rows.txt
-is held to the independent implementation beside this file, and the engine has no part in it. With --check nothing is written: the files
+The files go to stdin and stdout in the crates of the two programs; the gate runs each on the one and compares with the other. Every answer
+of rows.txt is held to the independent implementation beside this file, and the engine has no part in it. With --check nothing is written: the files
 must be those that would be.
 """
 import os
@@ -14,7 +14,7 @@ import sys
 import call_rows
 
 HERE = os.path.dirname(os.path.abspath(__file__))
-PROGRAM = os.path.join(HERE, "..", "crates", "calls")
+CRATES = os.path.join(HERE, "..", "crates")
 
 
 def repeated(text):
@@ -43,21 +43,25 @@ def expected(number, row, answer):
     return call_rows.line(row)
 
 
+def write(program, name, content):
+    """A file of a program, line by line; with --check it must be that already."""
+    text = "".join(line + "\n" for line in content)
+    path = os.path.join(CRATES, program, name)
+    if "--check" not in sys.argv:
+        with open(path, "w") as out:
+            out.write(text)
+    elif open(path).read() != text:
+        sys.exit(f"crates/{program}/{name} is not what rows.txt says: run tests/make_rows.py")
+
+
 def main():
-    rows, lines = [], []
+    rows = {program: [] for program in call_rows.PROGRAMS}
     for number, row, answer in read_rows(os.path.join(HERE, "rows.txt")):
-        rows.append(row)
-        lines.append(expected(number, row, answer))
-    lines.append(f"rows {len(rows)}")
-    for name, content in (("stdin", rows), ("stdout", lines)):
-        text = "".join(line + "\n" for line in content)
-        path = os.path.join(PROGRAM, name)
-        if "--check" not in sys.argv:
-            with open(path, "w") as out:
-                out.write(text)
-        elif open(path).read() != text:
-            sys.exit(f"crates/calls/{name} is not what rows.txt says: run tests/make_rows.py")
-    print(len(rows), "rows")
+        rows[call_rows.program_of(row)].append((row, expected(number, row, answer)))
+    for program, done in rows.items():
+        write(program, "stdin", [row for row, _ in done])
+        write(program, "stdout", [line for _, line in done] + [f"rows {len(done)}"])
+    print(" and ".join(f"{len(done)} rows of {program}" for program, done in rows.items()))
 
 
 if __name__ == "__main__":

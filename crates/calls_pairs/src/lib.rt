@@ -1,7 +1,12 @@
-// Rows of the calls on a pair, compare and pick, for the program calls. The numbers say how many words and bytes of the workspaces are lent, and with what all their places begin.
+// The calls on a pair, compare and pick. The numbers say how many words and bytes of the workspaces are lent, and with what all their places
+// begin.
+use calls_lists::MOST_BYTES;
+use calls_lists::bytes_of;
+use calls_text::Bytes;
 use calls_text::are_below;
 use calls_text::are_numbers;
 use calls_text::byte;
+use calls_text::front;
 use calls_text::number;
 use calls_text::print;
 use calls_text::workspaces;
@@ -105,7 +110,7 @@ fn is_well(numbers: &[u8]) -> bool {
 }
 
 // The call, and the workspaces afterwards.
-pub fn run<'a>(picks: bool, numbers: &[u8], first: &'a [u8], second: &'a [u8]) {
+fn on<'a>(picks: bool, numbers: &[u8], first: &'a [u8], second: &'a [u8]) {
     if !is_well(numbers) {
         print::bad();
         return;
@@ -119,4 +124,36 @@ pub fn run<'a>(picks: bool, numbers: &[u8], first: &'a [u8], second: &'a [u8]) {
     workspaces::fill_bytes(&mut coeffs, seed);
     in_first(picks, first, second, &mut sets, words, &mut coeffs, bytes);
     workspaces::show(&sets, &coeffs, seed);
+}
+
+// A call on a pair: two lists, or one slice given twice where the second is written `=`.
+fn pair(picks: bool, numbers: &[u8], first: &[u8], second: &[u8]) {
+    let mut a = [0xa5u8; MOST_BYTES];
+    let mut b = [0xa5u8; MOST_BYTES];
+    let Bytes::Count(size) = bytes_of(first, &mut a) else {
+        print::bad();
+        return;
+    };
+    if check::same(second, b"=") {
+        on(picks, numbers, front(&a, size), front(&a, size));
+        return;
+    }
+    let Bytes::Count(other) = bytes_of(second, &mut b) else {
+        print::bad();
+        return;
+    };
+    on(picks, numbers, front(&a, size), front(&b, other));
+}
+
+// The call of a name, on what its row says.
+pub fn run(name: &[u8], numbers: &[u8], first: &[u8], second: &[u8]) {
+    if check::same(name, b"compare") {
+        pair(false, numbers, first, second);
+        return;
+    }
+    if check::same(name, b"pick") {
+        pair(true, numbers, first, second);
+        return;
+    }
+    print::bad();
 }

@@ -1,5 +1,6 @@
-// Rows of text taken apart, what they print, and the workspaces that they lend: parts between separators, decimal numbers, bytes in
+// Rows of text: lines of the input, rows taken apart, what they print, and the workspaces that they lend: parts between separators, decimal numbers, bytes in
 // hexadecimal. Past its end a text holds spaces, so that no function asks anything of its caller.
+pub mod lines;
 pub mod print;
 pub mod workspaces;
 
@@ -20,6 +21,14 @@ fn find(text: &[u8], separator: u8, from: usize) -> usize {
         at += 1;
     }
     at
+}
+
+// The first so many bytes, or none where there are fewer.
+pub fn front(s: &[u8], size: usize) -> &[u8] {
+    if size > s.len() {
+        return &s[..0];
+    }
+    &s[0..size]
 }
 
 // A count, and one more where the answer is yes.

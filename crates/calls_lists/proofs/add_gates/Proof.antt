@@ -1,11 +1,11 @@
--- `calls_records::lists::add_gates` is safe and ends: the buffer keeps its length, and each turn goes on in the text.
+-- `calls_lists::add_gates` is safe and ends: the buffer keeps its length, and each turn goes on in the text.
 -- Assumes nothing.
 use mathlib.Core.Path.{_≡_}
 use Prim.Native.Nat.{_-_}
 use lib.ListN.{length}
 use borrow.Author.Needs.{needs}
-use Rattle.calls_records.proofs.lists.add_gates.Statement.{statement}
-use Rattle.calls_records.proofs.lists.add_gates.Tie as tie
+use Rattle.calls_lists.proofs.add_gates.Statement.{statement}
+use Rattle.calls_lists.proofs.add_gates.Tie as tie
 
 abbrev Inv-loop : tie.InvT-loop
 Inv-loop text buffer₀ at₀ buffer at = length buffer ≡ length buffer₀

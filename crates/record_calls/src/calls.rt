@@ -1,24 +1,13 @@
-// Rows of the record layer's calls, and the lists that rows of other calls lend. A row has a name of a call, numbers, and two parts that say
-// which bytes are lent: a record to read, and a buffer to write into.
-mod lists;
-mod names;
-mod readers;
-mod writers;
-
+// The calls of the record layer. A row has a name of a call, numbers, and two parts that say which bytes are lent: a record to read, and a
+// buffer to write into.
+use crate::names;
+use crate::readers;
+use crate::writers;
+use calls_lists::MOST_BYTES;
+use calls_lists::bytes_of;
 use calls_text::Bytes;
+use calls_text::front;
 use calls_text::print;
-pub use lists::bytes_of;
-
-// The bytes that a row lends at most.
-pub const MOST_BYTES: usize = 2048;
-
-// The first so many bytes, or none where there are fewer.
-pub fn front(s: &[u8], size: usize) -> &[u8] {
-    if size > s.len() {
-        return &s[..0];
-    }
-    &s[0..size]
-}
 
 // A call that reads.
 fn reader(call: u8, numbers: &[u8], text: &[u8]) {
@@ -56,7 +45,7 @@ fn writer(call: u8, numbers: &[u8], first: &[u8], second: &[u8]) {
 }
 
 // The call of a name, on what its row says. A name of no call, or a part where the call takes none, makes the row bad.
-pub fn run(name: &[u8], numbers: &[u8], first: &[u8], second: &[u8]) {
+pub(crate) fn run(name: &[u8], numbers: &[u8], first: &[u8], second: &[u8]) {
     let call = names::call_of(name);
     if !names::is_shaped(call, first, second) {
         print::bad();

@@ -12,6 +12,9 @@ use records::add;
 use records::start;
 use std::num::wrapping_add_usize;
 
+// The bytes that a row lends at most.
+pub const MOST_BYTES: usize = 2048;
+
 // No kind of gate.
 const NO_KIND: u8 = 255;
 
