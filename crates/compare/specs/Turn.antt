@@ -7,7 +7,7 @@ use Rattle.compare.specs.declared.reading.Turn.{Turn}
 use Rattle.compare.specs.declared.reading.Turn.the-variants.{Bytes, Ended, Failed}
 
 -- the bytes so far, if the reading goes on, stand at the start of the buffer
-abbrev pub Within : Turn → List ℕ → Type 0
-Within (Bytes k) buffer = k ≤ length buffer
-Within Ended buffer = Unit
-Within Failed buffer = Unit
+abbrev pub InBuffer : Turn → List ℕ → Type 0
+InBuffer (Bytes k) buffer = k ≤ length buffer
+InBuffer Ended buffer = Unit
+InBuffer Failed buffer = Unit

@@ -1,6 +1,6 @@
 // Reading a file or standard input: the bytes up to its end or as far as a buffer goes, told apart from a read that failed.
 ghost use Rattle.io.specs.Counts.{Counts};
-ghost use Rattle.compare.specs.Turn.{Within};
+ghost use Rattle.compare.specs.Turn.{InBuffer};
 use libc::EINTR;
 use libc::STDERR_FILENO;
 
@@ -27,7 +27,7 @@ const MOST_TURNS: u32 = 1000000;
 
 // One read behind the first `done` bytes.
 fn read_some(fd: i32, buffer: &mut [u8], done: usize) -> Turn
-    ensures { λ r. ⌜ Within r (now (buffer .exit)) ⌝ }
+    ensures { λ r. ⌜ InBuffer r (now (buffer .exit)) ⌝ }
 {
     if done >= buffer.len() {
         return Turn::Ended;

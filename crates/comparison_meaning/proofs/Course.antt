@@ -16,7 +16,7 @@ use Rattle.phase_sum_meaning.specs.Building.{PathSum}
 use Rattle.phase_sum_meaning.specs.Stepping.{takeOut, turned, Kind, sum, turn, constraint, kindOf}
 use Rattle.comparison_meaning.specs.Reduction.{Counts, counts, End, blocks}
 use Rattle.comparison_meaning.specs.Steps.{Ready, cOf, lOf, Step, sums, turns, joins, Blocked}
-use Rattle.comparison_meaning.specs.Verdict.{Verdict, undecided, Result, result, left, judge, searched, miter, pinnedOf, endOf, compare}
+use Rattle.comparison_meaning.specs.Verdict.{Verdict, undecided, Result, result, left, judge, searched, miter, pinnedOf, reducedOf, compare}
 use Rattle.comparison_meaning.specs.Course.{Lowest, PathVariable, Pins, every-qubit, pins, agrees, unpinnable, TakesLowest, Reduces, none-ready, obstructed, steps-on, Continues, further, halted, Stuck, Judged, blocked, unready, unsized, found, same, Shown, shows, Course}
 use Rattle.comparison_meaning.proofs.Pinning.{pins-course}
 use Rattle.comparison_meaning.proofs.Outcomes.{continues, reduced-stops, judges, reason, judged-undecided}
@@ -29,10 +29,10 @@ unfolding compare
 course-of scratch n first second l r =
     record {
       pinning = pinnedOf scratch n first second;
-      end = endOf scratch n first second;
+      end = reducedOf scratch n first second;
       pins = pins-course scratch n (miter first second) (within-miter scratch n first second l r);
       steps = continues n (pinnedOf scratch n first second) (pin-end scratch n first second l r .good);
-      shown = judges scratch n (endOf scratch n first second);
+      shown = judges scratch n (reducedOf scratch n first second);
     }
 
 -- a result is undecided exactly where its course ends stuck

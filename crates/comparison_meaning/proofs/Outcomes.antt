@@ -15,7 +15,7 @@ use Rattle.phase_sum_meaning.specs.Sets.{Among}
 use Rattle.phase_sum_meaning.specs.Parity.{Parity}
 use Rattle.phase_sum_meaning.specs.Phase.{inOdd}
 use Rattle.phase_sum_meaning.proofs.Wellformed.{Good}
-use Rattle.phase_sum_meaning.proofs.Evenness.{OddIn, Inputs}
+use Rattle.phase_sum_meaning.proofs.Evenness.{OddIn, InputsOnly}
 use Rattle.comparison_meaning.specs.Reduction.{End, reduceFrom, reduceEnd}
 use Rattle.comparison_meaning.specs.Steps.{Steps, Blocked}
 use Rattle.comparison_meaning.specs.Course.{Continues, further, halted, Done, Judged, blocked, unready, unsized, found, same, Shown, shows}
@@ -56,7 +56,7 @@ reduced-blocked (halted {q} h) through b = absurd (Option·some-ne-none q (sym h
 
 -- at an end that is not blocked none is left, where every odd coefficient of the pinned sum is on inputs alone
 pub reduced-even :
-    {n : ℕ} {p e : End} → Continues n p e → Good n (p .sum) → OddIn (Inputs n) (p .sum .phase .terms) → e .blockedBy ≡ none → e .sum .live ≡ []
+    {n : ℕ} {p e : End} → Continues n p e → Good n (p .sum) → OddIn (InputsOnly n) (p .sum .phase .terms) → e .blockedBy ≡ none → e .sum .live ≡ []
 reduced-even {n} {p} {e} (further h r) good even free = even-decides n (p .sum) (p .counts) e good r even free
 reduced-even (halted {q} h) good even free = absurd (Option·some-ne-none q (sym h ∙ free))
 

@@ -24,7 +24,7 @@ use Rattle.phase_sum_meaning.proofs.VariableLaws.{firstSuch-some, firstSuch-non
 use Rattle.phase_sum_meaning.proofs.Summing.{sumOver-√2^, sumOver-zero, sumOver-without, sumOver-on}
 use Rattle.phase_sum_meaning.proofs.StepLaws.{constraint-kind, sum-law, turn-law, constraint-law, join-law}
 use Rattle.phase_sum_meaning.proofs.Wellformed.{Good, good-takeOut, live-takeOut, good-turned, good-replace, live-replace, holds-oddHalves, holds-lowest}
-use Rattle.phase_sum_meaning.proofs.Evenness.{OddIn, Inputs, even-takeOut, even-turned, even-replace, even-ready}
+use Rattle.phase_sum_meaning.proofs.Evenness.{OddIn, InputsOnly, even-takeOut, even-turned, even-replace, even-ready}
 use Rattle.phase_sum_meaning.proofs.Roominess.{terms-takeOut, terms-turned, terms-replace}
 use Rattle.comparison_meaning.specs.Reduction.{Counts, addSum, addTurn, addJoin, End, blocks, isZero, Next, goes, stuck, stepWith, stepAt, reduceFrom, factor}
 use Rattle.comparison_meaning.specs.Steps.{Ready, cOf, lOf, Step, sums, turns, joins, Steps, more, Blocked}
@@ -37,7 +37,7 @@ pub record Kept (n : ℕ) (s : PathSum) (c : Counts) (t : PathSum) (d : Counts) 
   pub pins : d .pins ≡ c .pins
   pub count : d .sums + d .turns + 2 * d .joins + length (t .live) ≡ c .sums + c .turns + 2 * c .joins + length (s .live)
   pub value : (x : ℕ) → √2^ (factor c) (remaining s x) ≡ √2^ (factor d) (remaining t x)
-  pub even : OddIn (Inputs n) (s .phase .terms) → OddIn (Inputs n) (t .phase .terms)
+  pub even : OddIn (InputsOnly n) (s .phase .terms) → OddIn (InputsOnly n) (t .phase .terms)
   pub room : length (t .phase .terms) + length (t .live) ≤ length (s .phase .terms) + length (s .live)
 
 -- a step that gives √2^k, and counts it, keeps the value
@@ -242,7 +242,7 @@ pub even-decides :
     (n : ℕ) (s : PathSum) (c : Counts) (e : End)
     → Good n s
     → Reduces n s c e
-    → OddIn (Inputs n) (s .phase .terms)
+    → OddIn (InputsOnly n) (s .phase .terms)
     → e .blockedBy ≡ none
     → e .sum .live ≡ []
 even-decides n s c end g r even b = go (end .sum .live) refl

@@ -18,10 +18,10 @@ use Rattle.amplitude.proofs.Bridge.{zero-diagonal}
 use Rattle.phase_sum_meaning.specs.Sets.{Clear}
 use Rattle.phase_sum_meaning.specs.Parity.{Parity}
 use Rattle.phase_sum_meaning.specs.Phase.{minus}
-use Rattle.phase_sum_meaning.proofs.Evenness.{OddIn, Inputs, ready-even, noOdd-even, noOdd-build}
+use Rattle.phase_sum_meaning.proofs.Evenness.{OddIn, InputsOnly, ready-even, noOdd-even, noOdd-build}
 use Rattle.phase_sum_meaning.proofs.Roominess.{room-build}
 use Rattle.comparison_meaning.specs.Reduction.{End, factor}
-use Rattle.comparison_meaning.specs.Verdict.{equal, different, undecided, Result, blockedInput, endOf, compare, miter, pinnedOf}
+use Rattle.comparison_meaning.specs.Verdict.{equal, different, undecided, Result, blockedInput, reducedOf, compare, miter, pinnedOf}
 use Rattle.comparison_meaning.specs.Demands.{SomePower, EqualIsRight, EqualByConstant, DifferentIsRight, ByTheSteps, ReachedBySteps, InputsOnlyIfDifferent, CountsAddUp, StepsWithinHGates, Decided, CliffordIsDecided, EvenIsDecided, EveryStep, EndOfSteps, BuiltFits, EveryStepFits, Demands, BlockedAsShown, EverySumIsCanonical}
 use Rattle.comparison_meaning.specs.Course.{Continues, further, halted, Judged, blocked, unsized, found, same, Shown, shows}
 use Rattle.comparison_meaning.proofs.Weight.{search-some}
@@ -38,7 +38,7 @@ clear-none v q h = absurd (true≢false (sym h ∙ bit-zero q))
 
 module _ (n : ℕ) (first second : List Gate) (l : AllWithin n first) (r : AllWithin n second) where
   -- how the reduction ends
-  ends : Continues n (pinnedOf 0 n first second) (endOf 0 n first second)
+  ends : Continues n (pinnedOf 0 n first second) (reducedOf 0 n first second)
   ends = continues n (pinnedOf 0 n first second) (pin-end 0 n first second l r .good)
 
   -- its end is reached by steps, also where pinning is blocked
@@ -73,9 +73,9 @@ module _ (n : ℕ) (first second : List Gate) (l : AllWithin n first) (r : AllWi
   every-step-fits = steps-fit 0 n first second l r
 
   -- the result shows the verdict on the end, and its counts
-  shown : Shown 0 n (endOf 0 n first second) (compare 0 n first second)
+  shown : Shown 0 n (reducedOf 0 n first second) (compare 0 n first second)
   unfolding compare
-  shown = judges 0 n (endOf 0 n first second)
+  shown = judges 0 n (reducedOf 0 n first second)
 
   -- pins + sums + turns + 2 · joins + left are the H gates of both lists
   pub counts-add-up : CountsAddUp n first second (compare 0 n first second)
@@ -83,7 +83,7 @@ module _ (n : ℕ) (first second : List Gate) (l : AllWithin n first) (r : AllWi
     where
       add-up :
           {x : Result}
-          → Shown 0 n (endOf 0 n first second) x
+          → Shown 0 n (reducedOf 0 n first second) x
           → x .pins + x .sums + x .turns + 2 * x .joins + x .left ≡ hGates first + hGates second
       add-up (shows j) = steps-count 0 n first second l r _ _ reached-by-steps
 
@@ -97,14 +97,14 @@ module _ (n : ℕ) (first second : List Gate) (l : AllWithin n first) (r : AllWi
     where
       carries :
           {a b : ℕ}
-          → Judged 0 n (endOf 0 n first second) equal a b
-          → Carries n (minus (endOf 0 n first second .sum .phase .constant)) first second
+          → Judged 0 n (reducedOf 0 n first second) equal a b
+          → Carries n (minus (reducedOf 0 n first second .sum .phase .constant)) first second
       carries (same done sized none-found) v b =
           same-carries 0 n first second l r _ _ reached-by-steps (reduced-through ends (done .0)) (done .1) sized none-found v b (clear-none v)
 
   -- so some power carries the pair
   pub equal-is-right : EqualIsRight n first second (compare 0 n first second)
-  equal-is-right h = (minus (endOf 0 n first second .sum .phase .constant), omega arith, equal-by-constant h)
+  equal-is-right h = (minus (reducedOf 0 n first second .sum .phase .constant), omega arith, equal-by-constant h)
 
   -- where the reduction is blocked, the diagonal amplitude is 0 at the input shown
   blocked-zero :
@@ -130,7 +130,7 @@ module _ (n : ℕ) (first second : List Gate) (l : AllWithin n first) (r : AllWi
     where
       differ :
           {a b : ℕ}
-          → Judged 0 n (endOf 0 n first second) different a b
+          → Judged 0 n (reducedOf 0 n first second) different a b
           → (a < 2 ^ n) × (b < 2 ^ n) × ((j : ℕ) → Fits n j first second a → Fits n j first second b → ⊥)
       differ (blocked h) =
           let zero = blocked-zero ends h in
@@ -139,7 +139,7 @@ module _ (n : ℕ) (first second : List Gate) (l : AllWithin n first) (r : AllWi
           let sized = fits-sized 0 n first second l r _ _ reached-by-steps (reduced-through ends (done .0)) (done .1) in
           (pow-pos n, pow-pos n, λ j fits again. unequal (sized 0 j (pow-pos n) (clear-none 0) fits))
       differ (found {v} done sized differs) =
-          let witness = search-some 0 n v (endOf 0 n first second .sum .phase) differs in
+          let witness = search-some 0 n v (reducedOf 0 n first second .sum .phase) differs in
           let apart = phases-apart 0 n first second l r _ _ reached-by-steps (reduced-through ends (done .0)) (done .1) sized in
           (pow-pos n, witness .0, λ j. apart 0 v j (pow-pos n) (witness .0) (clear-none 0) (witness .1) (witness .2))
 
@@ -159,7 +159,7 @@ module _ (n : ℕ) (first second : List Gate) (l : AllWithin n first) (r : AllWi
 
   -- where every odd coefficient of the pinned sum is on inputs alone, the verdict is equal, exactly if one power of ω carries the pair,
   -- or different
-  decided : OddIn (Inputs n) (pinnedOf 0 n first second .sum .phase .terms) → Decided n first second (compare 0 n first second)
+  decided : OddIn (InputsOnly n) (pinnedOf 0 n first second .sum .phase .terms) → Decided n first second (compare 0 n first second)
   decided even = ((equal-is-right, λ power. ⊎-elim (λ h. h) (λ h. absurd (refuted power h)) either), either)
     where
       either : (compare 0 n first second .verdict ≡ equal) ⊎ (compare 0 n first second .verdict ≡ different)

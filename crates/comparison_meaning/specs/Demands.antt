@@ -20,7 +20,7 @@ use Rattle.phase_sum_meaning.specs.Room.{room, mostVariables, places}
 use Rattle.comparison_meaning.specs.Reduction.{Counts, End, factor}
 use Rattle.comparison_meaning.specs.Steps.{Steps, Blocked}
 use Rattle.comparison_meaning.specs.Course.{Course, Stuck}
-use Rattle.comparison_meaning.specs.Verdict.{Result, equal, different, undecided, miter, pinnedOf, endOf, compare}
+use Rattle.comparison_meaning.specs.Verdict.{Result, equal, different, undecided, miter, pinnedOf, reducedOf, compare}
 
 -- the sum t with the counts d is reached by document 01's steps from the pinned sum of a pair
 abbrev pub Reached : ℕ → ℕ → List Gate → List Gate → PathSum → Counts → Type 0
@@ -33,7 +33,7 @@ module _ (n : ℕ) (first second : List Gate) where
 
   -- where the reduction ends
   abbrev pub end : End
-  end = endOf 0 n first second
+  end = reducedOf 0 n first second
 
   -- one power of ω carries every amplitude of the first list to the same amplitude of the second
   abbrev pub SomePower : Type 0

@@ -111,9 +111,9 @@ abbrev pub pinnedOf : ℕ → ℕ → List Gate → List Gate → End
 pinnedOf scratch n first second = pinned scratch n (build scratch n (miter first second))
 
 -- where the reduction of a pair ends
-abbrev pub endOf : ℕ → ℕ → List Gate → List Gate → End
-endOf scratch n first second = reduceEnd (pinnedOf scratch n first second)
+abbrev pub reducedOf : ℕ → ℕ → List Gate → List Gate → End
+reducedOf scratch n first second = reduceEnd (pinnedOf scratch n first second)
 
 -- the comparison of two lists on n qubits
 unfoldable pub compare : ℕ → ℕ → List Gate → List Gate → Result
-compare scratch n first second = judge scratch n (endOf scratch n first second)
+compare scratch n first second = judge scratch n (reducedOf scratch n first second)

@@ -79,8 +79,8 @@ input-none zero o e z = sym e
 input-none (suc r) o e z = absurd (omega arith)
 
 -- an input found on at most 16 qubits is below 2^16
-pub found-below : (n r : ℕ) (φ : Phase) → n ≤ 16 → inputOf r ≡ firstDiffering φ (candidates 0 n) → (r ≡ 0 → ⊥) → r < 2 ^ 16
-found-below n r φ l e ne = omega (arith, search-some 0 n r φ (input-found r _ e ne), pow-mono {i = n} {j = 16} l)
+pub input-below : (n r : ℕ) (φ : Phase) → n ≤ 16 → inputOf r ≡ firstDiffering φ (candidates 0 n) → (r ≡ 0 → ⊥) → r < 2 ^ 16
+input-below n r φ l e ne = omega (arith, search-some 0 n r φ (input-found r _ e ne), pow-mono {i = n} {j = 16} l)
 
 -- the verdict on n qubits where no variable is left
 module _ (n : ℕ) (e : End) where

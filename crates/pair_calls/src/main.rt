@@ -1,5 +1,6 @@
-// Drives the calls on a pair, compare and pick, with rows of text from standard input and prints one line for each; the last line says how many rows there
-// were. tests/README.md describes rows and lines; tests/make_rows.py writes the rows of the gate and what must be printed for them.
+// Drives the calls on a pair, compare and pick, with rows of text from standard input and prints one line for each; the last line says how
+// many rows there were. tests/README.md describes rows and lines; tests/make_rows.py writes the rows of the gate and what must be printed
+// for them.
 //
 // A row: NAME;CALL;NUMBERS;FIRST;SECOND, all five of them. NUMBERS are decimal, one space between two. FIRST and SECOND are bytes in
 // hexadecimal, or a list of gates on n qubits, as `2:h0 t1 c01` (calls_lists). What is printed: the name, what the call answered, and what

@@ -25,8 +25,8 @@ abbrev pub OddIn : (ℕ → Type 0) → List Term → Type 0
 OddIn P ts = Every (λ t. t .coeff % 2 ≡ 1 → P (t .set)) ts
 
 -- a set of inputs alone
-abbrev pub Inputs : ℕ → ℕ → Type 0
-Inputs n s = (v : ℕ) → n ≤ v → bit v s ≡ false
+abbrev pub InputsOnly : ℕ → ℕ → Type 0
+InputsOnly n s = (v : ℕ) → n ≤ v → bit v s ≡ false
 
 -- no coefficient is odd
 abbrev pub NoOdd : List Term → Type 0
@@ -93,32 +93,32 @@ oddIn-rebuild P f k (t ∷ ts) e send =
 pub even-replace :
     (n z : ℕ) (p : Parity) (s : PathSum) →
     n ≤ z →
-    OddIn (Inputs n) (s .phase .terms) →
-    OddIn (Inputs n) (replace z p s .phase .terms)
+    OddIn (InputsOnly n) (s .phase .terms) →
+    OddIn (InputsOnly n) (replace z p s .phase .terms)
 unfolding replace
 even-replace n z p s l e =
-    oddIn-rebuild (Inputs n) (λ u. replaceIn z p (of u)) (s .phase .constant) (s .phase .terms) e
+    oddIn-rebuild (InputsOnly n) (λ u. replaceIn z p (of u)) (s .phase .constant) (s .phase .terms) e
     (λ u h. rw (replaceIn-absent z p (of u) (h z l)) h)
 
 -- so does taking one out
 pub even-takeOut :
-    (n y : ℕ) (s : PathSum) → n ≤ y → OddIn (Inputs n) (s .phase .terms) → OddIn (Inputs n) (takeOut y s .phase .terms)
+    (n y : ℕ) (s : PathSum) → n ≤ y → OddIn (InputsOnly n) (s .phase .terms) → OddIn (InputsOnly n) (takeOut y s .phase .terms)
 unfolding takeOut outOf
 even-takeOut n y s l e =
-    oddIn-rebuild (Inputs n) (λ u. of (outOf y u)) (s .phase .constant) (s .phase .terms) e (λ u h. rw (h y l) h)
+    oddIn-rebuild (InputsOnly n) (λ u. of (outOf y u)) (s .phase .constant) (s .phase .terms) e (λ u h. rw (h y l) h)
 
 -- so does the phase of a turn, whose coefficient is even
 pub even-turned :
-    (n k l : ℕ) (s : PathSum) → OddIn (Inputs n) (s .phase .terms) → OddIn (Inputs n) (turned k l s .phase .terms)
+    (n k l : ℕ) (s : PathSum) → OddIn (InputsOnly n) (s .phase .terms) → OddIn (InputsOnly n) (turned k l s .phase .terms)
 unfolding turned addConstant
-even-turned n k l s e = oddIn-addTerm (Inputs n) l (cond (eqb k 1) 6 2) (addConstant (cond (eqb k 1) 1 7) (s .phase)) e (go (eqb k 1))
+even-turned n k l s e = oddIn-addTerm (InputsOnly n) l (cond (eqb k 1) 6 2) (addConstant (cond (eqb k 1) 1 7) (s .phase)) e (go (eqb k 1))
   where
-    go : (b : Bool) → cond b 6 2 % 2 ≡ 1 → Inputs n l
+    go : (b : Bool) → cond b 6 2 % 2 ≡ 1 → InputsOnly n l
     go true odd = absurd (omega arith)
     go false odd = absurd (omega arith)
 
 -- where the odd coefficients are on sets of inputs, no other variable is in one of those
-pub even-ready : (n v : ℕ) (ts : List Term) → OddIn (Inputs n) ts → n ≤ v → inOdd v ts ≡ false
+pub even-ready : (n v : ℕ) (ts : List Term) → OddIn (InputsOnly n) ts → n ≤ v → inOdd v ts ≡ false
 unfolding inOdd
 even-ready n v [] e l = refl
 even-ready n v (t ∷ ts) e l = go (bit v (t .set)) (eqb (t .coeff % 2) 1) refl refl (even-ready n v ts (e .1) l)
@@ -129,7 +129,7 @@ even-ready n v (t ∷ ts) e l = go (bit v (t .set)) (eqb (t .coeff % 2) 1) refl 
     go false b h k later = rw h later
 
 -- and the other way round
-pub ready-even : (n : ℕ) (ts : List Term) → ((v : ℕ) → n ≤ v → inOdd v ts ≡ true → ⊥) → OddIn (Inputs n) ts
+pub ready-even : (n : ℕ) (ts : List Term) → ((v : ℕ) → n ≤ v → inOdd v ts ≡ true → ⊥) → OddIn (InputsOnly n) ts
 unfolding inOdd
 ready-even n [] h = tt
 ready-even n (t ∷ ts) h = (λ odd v l. go v l odd (bit v (t .set)) refl, ready-even n ts (λ v l e. h v l (rw (e, or-true))))
@@ -139,7 +139,7 @@ ready-even n (t ∷ ts) h = (λ odd v l. go v l odd (bit v (t .set)) refl, ready
     go v l odd false k = k
 
 -- where no coefficient is odd, there is nothing to show of those that are
-pub noOdd-even : (n : ℕ) (ts : List Term) → NoOdd ts → OddIn (Inputs n) ts
+pub noOdd-even : (n : ℕ) (ts : List Term) → NoOdd ts → OddIn (InputsOnly n) ts
 noOdd-even n ts e = every-map _ _ ts (λ t none odd. absurd (none odd)) e
 
 -- replacing a variable brings no odd coefficient

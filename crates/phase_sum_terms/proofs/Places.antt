@@ -68,24 +68,24 @@ sumAt-next [] t x = omega arith
 sumAt-next (u ∷ us) t x = omega (arith, sumAt-next us t x)
 
 -- the phase at an input as the first i terms give it
-abbrev pub phaseBy : ℕ → ℕ → List ℕ → List ℕ → ℕ → ℕ
-phaseBy i k ss cs x = phaseAt (record { constant = k; terms = held i ss cs }) x
+abbrev pub phaseSoFar : ℕ → ℕ → List ℕ → List ℕ → ℕ → ℕ
+phaseSoFar i k ss cs x = phaseAt (record { constant = k; terms = held i ss cs }) x
 
 -- before the first turn it is the constant
-pub phaseBy-none : (k : ℕ) (ss cs : List ℕ) (x : ℕ) → phaseBy 0 k ss cs x ≡ k
+pub phaseSoFar-none : (k : ℕ) (ss cs : List ℕ) (x : ℕ) → phaseSoFar 0 k ss cs x ≡ k
 unfolding phaseAt sumAt zipTerms
-phaseBy-none k ss cs x = omega arith
+phaseSoFar-none k ss cs x = omega arith
 
 -- a turn adds the next term's share
-pub phaseBy-more :
+pub phaseSoFar-more :
     (i k : ℕ) (ss cs : List ℕ) (x : ℕ) →
     i < length ss →
     i < length cs →
-    phaseBy (i + 1) k ss cs x ≡ phaseBy i k ss cs x + cond (parity (getD ss i 0) x) (getD cs i 0) 0
+    phaseSoFar (i + 1) k ss cs x ≡ phaseSoFar i k ss cs x + cond (parity (getD ss i 0) x) (getD cs i 0) 0
 unfolding phaseAt
-phaseBy-more i k ss cs x l h = rw (held-more i ss cs l h, sumAt-next, share-digit) (omega arith)
+phaseSoFar-more i k ss cs x l h = rw (held-more i ss cs l h, sumAt-next, share-digit) (omega arith)
 
 -- its constant counts mod 8
-pub phaseBy-constant : (i k : ℕ) (ss cs : List ℕ) (x : ℕ) → phaseBy i ((k + 0) % 8) ss cs x % 8 ≡ phaseBy i k ss cs x % 8
+pub phaseSoFar-constant : (i k : ℕ) (ss cs : List ℕ) (x : ℕ) → phaseSoFar i ((k + 0) % 8) ss cs x % 8 ≡ phaseSoFar i k ss cs x % 8
 unfolding phaseAt
-phaseBy-constant i k ss cs x = omega arith
+phaseSoFar-constant i k ss cs x = omega arith

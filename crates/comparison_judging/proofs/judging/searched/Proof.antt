@@ -10,7 +10,7 @@ use Rattle.phase_sum_terms.specs.Workspace.{slices}
 use Rattle.phase_sum_terms.specs.declared.Parity.{Parity as ParityWord}
 use Rattle.comparison_meaning.specs.Reduction.{End}
 use Rattle.comparison_types.specs.Inner.{endOf, unblocked}
-use Rattle.comparison_types.proofs.VerdictLaws.{found-below, searched-uneven, searched-found, searched-none}
+use Rattle.comparison_types.proofs.VerdictLaws.{input-below, searched-uneven, searched-found, searched-none}
 use borrow.Author.Needs.{needs}
 use Rattle.comparison_judging.proofs.judging.searched.Statement.{statement}
 use Rattle.comparison_judging.proofs.judging.searched.Tie as tie
@@ -37,7 +37,7 @@ search-requires c κs = search needs
 cast-outcome : tie.Need-cast-outcome
 cast-outcome c =
     let start = c .before .before .before .before .before .before .before in
-    omega (arith, found-below _ _ _ (start .pre .0) (c .before .search .ensures) (c .if2 .taken))
+    omega (arith, input-below _ _ _ (start .pre .0) (c .before .search .ensures) (c .if2 .taken))
 
 outcome-requires-2 : tie.Need-outcome-requires-2
 outcome-requires-2 c κs = search needs
