@@ -3,10 +3,17 @@
 use mathlib.Core.Path.{_≡_, refl}
 use Prim.Native.Nat.{ℕ, _≤_}
 use native.Mathlib.Omega.{arith}
-use mathlib.Core.List.{[], _∷_}
+use mathlib.Core.List.{List, [], _∷_}
+use mathlib.Core.Option.{Option, none, some}
+use lib.ListN.{replicate}
 use Rattle.record_format.specs.Format.{lastVerdict}
+use Rattle.record_format.specs.Gate.{Gate, one, H}
+use Rattle.record_format.specs.Row.{first}
+use Rattle.record_format.specs.Reading.{accepted}
+use Rattle.amplitude.specs.Circuit.{tally}
 use Rattle.comparison_meaning.specs.Verdict.{equal, different, undecided, number}
-use Rattle.comparison_types.specs.Call.{verdictNumber, verdictOf, refuses, leftBy, theSecond, pickedAt}
+use Rattle.comparison_types.specs.Call.{verdictNumber, verdictOf, workspaceRows, pairFault, refuses, leftBy, theSecond, pickedAt}
+use Rattle.comparison_types.specs.Inner.{numberIn}
 use Rattle.comparison_types.specs.declared.Verdict.{Verdict}
 use Rattle.comparison_types.specs.declared.Verdict.the-variants.{Equal, Different, Undecided}
 
@@ -25,6 +32,27 @@ pub verdict-known : (v : Verdict) → verdictNumber v ≤ lastVerdict
 verdict-known Equal = omega arith
 verdict-known Different = omega arith
 verdict-known Undecided = omega arith
+
+-- so many H gates
+abbrev hadamards : ℕ → List Gate
+hadamards k = replicate k (one H 0)
+
+-- the number that two lists on 16 qubits are refused by, if any, in workspaces of w and c places
+abbrev refusedBy : ℕ → ℕ → ℕ → ℕ → Option ℕ
+refusedBy h k w c = numberIn (pairFault (accepted 16 (hadamards h)) (accepted 16 (hadamards k)) (workspaceRows w c))
+
+-- document 01's limits: 48 H gates pass on 16 qubits, in whichever list, and 49 get 9
+pub h-limit :
+    (refusedBy 48 0 3136 3136 ≡ none)
+    × ((refusedBy 20 28 3136 3136 ≡ none) × ((refusedBy 49 0 3136 3136 ≡ some 9) × (refusedBy 20 29 3136 3136 ≡ some 9)))
+unfolding pairFault first tally
+h-limit = (refl, (refl, (refl, refl)))
+
+-- 3,136 places pass, 3,135 of either workspace get 10, behind 9
+pub places-limit :
+    (refusedBy 0 0 3135 3136 ≡ some 10) × ((refusedBy 0 0 3136 3135 ≡ some 10) × (refusedBy 49 0 0 0 ≡ some 9))
+unfolding pairFault first tally
+places-limit = (refl, (refl, refl))
 
 -- a refused call leaves a workspace as it was
 pub refused-leaves : leftBy (refuses 8) (1 ∷ 2 ∷ []) ≡ 1 ∷ 2 ∷ []
