@@ -3,12 +3,30 @@
 use mathlib.Core.Path.{_∙_}
 use lib.ListN.{length}
 use denote.Ref.{now}
+use Rattle.phase_sum_terms.specs.Workspace.{slices, lent}
 use Rattle.phase_sum_terms.specs.Unmerged.{gatesIn}
+use Rattle.phase_sum_terms.proofs.Running.{AsLong}
 use Rattle.phase_sum_terms.proofs.Changing.{sized-stands}
 use Rattle.comparison_types.proofs.ClauseLaws.{built-sized, decided}
 use borrow.Author.Needs.{needs}
 use Rattle.comparison.proofs.comparing.decide_in.Statement.{statement}
 use Rattle.comparison.proofs.comparing.decide_in.Tie as tie
+
+-- the function's entry, from where `build` has answered
+abbrev entry : tie.After-build → tie.Start
+entry c = c .before .before .before .before .before .before .before .before .before .before .before
+
+-- from where `pin` has answered to where `build` had
+abbrev to-build : tie.After-pin → tie.After-build
+to-build c = c .before .before .before .before .before .before .before .before .before .before .before .before .before
+
+-- from where `reduce_end` has answered to where `pin` had
+abbrev to-pin : tie.After-reduce-end → tie.After-pin
+to-pin c = c .before .before .before .before .before .before .before .before .before .before .before .before .before
+
+-- from where `judge` is called to where `reduce_end` had answered
+abbrev to-reduce-end : tie.After-judge-arg2 → tie.After-reduce-end
+to-reduce-end c = c .before .before .before .before .before .before .before .before .before .before
 
 build-requires : tie.Need-build-requires
 build-requires c κs = search needs
@@ -16,13 +34,11 @@ build-requires c κs = search needs
 pin-requires : tie.Need-pin-requires
 pin-requires c κs =
     let at-build = c .before .before .before .before .before .before .before .before .before .before .before .before in
-    let start = at-build .before .before .before .before .before .before .before .before .before .before .before in
-    let a = start .args in
-    let pre = start .pre in
+    let e = entry at-build in
     let kept = at-build .build .kept .1 .1 in
-    built-sized (gatesIn (now (a .first))) (gatesIn (now (a .second))) (at-build .build .ensures)
-    (record { wires = kept .0; flips = kept .1 .0; sets = kept .1 .1 .0; coeffs = kept .1 .1 .1 .0 }) (pre .1 .few) (pre .0)
-    (pre .1 .sets) (pre .1 .coeffs)
+    built-sized (gatesIn (now (e .args .first))) (gatesIn (now (e .args .second))) (at-build .build .ensures)
+    (record { wires = kept .0; flips = kept .1 .0; sets = kept .1 .1 .0; coeffs = kept .1 .1 .1 .0 }) (e .pre .1 .few) (e .pre .0)
+    (e .pre .1 .sets) (e .pre .1 .coeffs)
 
 reduce-end-requires : tie.Need-reduce-end-requires
 reduce-end-requires c κs =
@@ -31,46 +47,44 @@ reduce-end-requires c κs =
 
 judge-requires : tie.Need-judge-requires
 judge-requires c κs =
-    let at-reduce-end = c .before .before .before .before .before .before .before .before .before .before in
-    let start = at-reduce-end .before .before .before .before .before .before .before .before .before .before .before .before .before .before .before .before .before .before .before .before .before .before .before .before .before .before .before .before .before .before .before .before .before .before .before .before .before in
+    let at-reduce-end = to-reduce-end c in
     let stands = sized-stands (at-reduce-end .reduce-end .ensures .sized) in
-    (start .pre .1 .few, stands .sets, stands .coeffs)
+    (entry (to-build (to-pin at-reduce-end)) .pre .1 .few, stands .sets, stands .coeffs)
+
+-- each slice is as long behind the three calls as it was
+as-long : (c : tie.After-reduce-end) →
+    let a = entry (to-build (to-pin c)) .args in
+    let last = c .reduce-end .last .1 in
+    AsLong (lent (a .ws) (a .fs) (a .sets) (a .coeffs)) (slices (last .0) (last .1 .0) (last .1 .1 .0) (last .1 .1 .1 .0))
+as-long c =
+    let reduced = c .reduce-end .kept .1 in
+    let pinned = to-pin c .pin .kept .1 in
+    let built = to-build (to-pin c) .build .kept .1 .1 in
+    record {
+      wires = reduced .0 ∙ pinned .0 ∙ built .0;
+      flips = reduced .1 .0 ∙ pinned .1 .0 ∙ built .1 .0;
+      sets = reduced .1 .1 .0 ∙ pinned .1 .1 .0 ∙ built .1 .1 .0;
+      coeffs = reduced .1 .1 .1 .0 ∙ pinned .1 .1 .1 .0 ∙ built .1 .1 .1 .0;
+    }
 
 same-length : tie.Need-same-length
-same-length c =
-    let at-reduce-end = c .before .before .before .before .before .before .before .before .before .before .before in
-    let at-pin = at-reduce-end .before .before .before .before .before .before .before .before .before .before .before .before .before in
-    let at-build = at-pin .before .before .before .before .before .before .before .before .before .before .before .before .before in
-    at-reduce-end .reduce-end .kept .1 .0 ∙ at-pin .pin .kept .1 .0 ∙ at-build .build .kept .1 .1 .0
+same-length c = as-long (to-reduce-end (c .before)) .wires
 
 same-length-2 : tie.Need-same-length-2
-same-length-2 c =
-    let at-reduce-end = c .before .before .before .before .before .before .before .before .before .before .before in
-    let at-pin = at-reduce-end .before .before .before .before .before .before .before .before .before .before .before .before .before in
-    let at-build = at-pin .before .before .before .before .before .before .before .before .before .before .before .before .before in
-    at-reduce-end .reduce-end .kept .1 .1 .0 ∙ at-pin .pin .kept .1 .1 .0 ∙ at-build .build .kept .1 .1 .1 .0
+same-length-2 c = as-long (to-reduce-end (c .before)) .flips
 
 same-length-3 : tie.Need-same-length-3
-same-length-3 c =
-    let at-reduce-end = c .before .before .before .before .before .before .before .before .before .before .before in
-    let at-pin = at-reduce-end .before .before .before .before .before .before .before .before .before .before .before .before .before in
-    let at-build = at-pin .before .before .before .before .before .before .before .before .before .before .before .before .before in
-    at-reduce-end .reduce-end .kept .1 .1 .1 .0 ∙ at-pin .pin .kept .1 .1 .1 .0 ∙ at-build .build .kept .1 .1 .1 .1 .0
+same-length-3 c = as-long (to-reduce-end (c .before)) .sets
 
 same-length-4 : tie.Need-same-length-4
-same-length-4 c =
-    let at-reduce-end = c .before .before .before .before .before .before .before .before .before .before .before in
-    let at-pin = at-reduce-end .before .before .before .before .before .before .before .before .before .before .before .before .before in
-    let at-build = at-pin .before .before .before .before .before .before .before .before .before .before .before .before .before in
-    at-reduce-end .reduce-end .kept .1 .1 .1 .1 .0 ∙ at-pin .pin .kept .1 .1 .1 .1 .0 ∙ at-build .build .kept .1 .1 .1 .1 .1 .0
+same-length-4 c = as-long (to-reduce-end (c .before)) .coeffs
 
 returns : tie.Need-returns
 returns c =
-    let at-reduce-end = c .before .before .before .before .before .before .before .before .before .before .before in
-    let at-pin = at-reduce-end .before .before .before .before .before .before .before .before .before .before .before .before .before in
-    let at-build = at-pin .before .before .before .before .before .before .before .before .before .before .before .before .before in
-    let start = at-build .before .before .before .before .before .before .before .before .before .before .before in
-    let a = start .args in
+    let at-reduce-end = to-reduce-end (c .before) in
+    let at-pin = to-pin at-reduce-end in
+    let at-build = to-build at-pin in
+    let a = entry at-build .args in
     decided (length (now (a .ws))) _ (gatesIn (now (a .first))) (gatesIn (now (a .second))) (at-build .build .ensures .sum)
     (at-build .build .kept .1 .1 .0) (at-pin .pin .ensures .end) (at-reduce-end .reduce-end .ensures .end) (c .judge .ensures _ _)
 
