@@ -3,9 +3,7 @@
 use mathlib.Core.Path.{_∙_}
 use lib.ListN.{length}
 use denote.Ref.{now}
-use Rattle.phase_sum_terms.specs.Workspace.{slices, lent}
 use Rattle.phase_sum_terms.specs.Unmerged.{gatesIn}
-use Rattle.phase_sum_terms.proofs.Running.{AsLong}
 use Rattle.phase_sum_terms.proofs.Changing.{sized-stands}
 use Rattle.comparison_types.proofs.ClauseLaws.{built-sized, decided}
 use borrow.Author.Needs.{needs}
@@ -51,33 +49,17 @@ judge-requires c κs =
     let stands = sized-stands (at-reduce-end .reduce-end .ensures .sized) in
     (entry (to-build (to-pin at-reduce-end)) .pre .1 .few, stands .sets, stands .coeffs)
 
--- each slice is as long behind the three calls as it was
-as-long : (c : tie.After-reduce-end) →
-    let a = entry (to-build (to-pin c)) .args in
-    let last = c .reduce-end .last .1 in
-    AsLong (lent (a .ws) (a .fs) (a .sets) (a .coeffs)) (slices (last .0) (last .1 .0) (last .1 .1 .0) (last .1 .1 .1 .0))
-as-long c =
-    let reduced = c .reduce-end .kept .1 in
-    let pinned = to-pin c .pin .kept .1 in
-    let built = to-build (to-pin c) .build .kept .1 .1 in
-    record {
-      wires = reduced .0 ∙ pinned .0 ∙ built .0;
-      flips = reduced .1 .0 ∙ pinned .1 .0 ∙ built .1 .0;
-      sets = reduced .1 .1 .0 ∙ pinned .1 .1 .0 ∙ built .1 .1 .0;
-      coeffs = reduced .1 .1 .1 .0 ∙ pinned .1 .1 .1 .0 ∙ built .1 .1 .1 .0;
-    }
-
 same-length : tie.Need-same-length
-same-length c = as-long (to-reduce-end (c .before)) .wires
+same-length c = let r = to-reduce-end (c .before) in r .reduce-end .kept .1 .0 ∙ to-pin r .pin .kept .1 .0 ∙ to-build (to-pin r) .build .kept .1 .1 .0
 
 same-length-2 : tie.Need-same-length-2
-same-length-2 c = as-long (to-reduce-end (c .before)) .flips
+same-length-2 c = let r = to-reduce-end (c .before) in r .reduce-end .kept .1 .1 .0 ∙ to-pin r .pin .kept .1 .1 .0 ∙ to-build (to-pin r) .build .kept .1 .1 .1 .0
 
 same-length-3 : tie.Need-same-length-3
-same-length-3 c = as-long (to-reduce-end (c .before)) .sets
+same-length-3 c = let r = to-reduce-end (c .before) in r .reduce-end .kept .1 .1 .1 .0 ∙ to-pin r .pin .kept .1 .1 .1 .0 ∙ to-build (to-pin r) .build .kept .1 .1 .1 .1 .0
 
 same-length-4 : tie.Need-same-length-4
-same-length-4 c = as-long (to-reduce-end (c .before)) .coeffs
+same-length-4 c = let r = to-reduce-end (c .before) in r .reduce-end .kept .1 .1 .1 .1 .0 ∙ to-pin r .pin .kept .1 .1 .1 .1 .0 ∙ to-build (to-pin r) .build .kept .1 .1 .1 .1 .1 .0
 
 returns : tie.Need-returns
 returns c =
