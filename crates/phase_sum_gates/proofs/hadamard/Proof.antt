@@ -19,26 +19,22 @@ single-requires c κs =
 
 wire-requires : tie.Need-wire-requires
 wire-requires c κs =
-    let start = c .before .before .before .before .before .before .before .before in
-    let pre = start .pre in
+    let pre = c .before .before .before .before .before .before .before .before .pre in
     (pre .within .0, omega (arith, pre .within .0, pre .flips))
 
 put-product-requires : tie.Need-put-product-requires
 put-product-requires c κs =
-    let start = c .before .before .before .before .before .before .before .before .before .before .before in
-    let pre = start .pre in
+    let pre = c .before .before .before .before .before .before .before .before .before .before .before .pre in
     unfold tally roomFor in (omega (arith, pre .sets), omega (arith, pre .coeffs))
 
 set-wire-requires : tie.Need-set-wire-requires
 set-wire-requires c κs =
-    let start = c .before .before .before .before .before .before .before .before .before .before .before .before .before .before .before .before .before .before in
-    let pre = start .pre in
+    let pre = c .before .before .before .before .before .before .before .before .before .before .before .before .before .before .before .before .before .before .pre in
     (pre .within .0, omega (arith, pre .within .0, pre .flips))
 
 add-t26 : tie.Need-add-t26
 add-t26 c =
-    let start = c .before .before .before .before .before .before .before .before .before .before .before .before .before .before .before .before .before .before .before .before .before .before .before in
-    let pre = start .pre in
+    let pre = c .before .before .before .before .before .before .before .before .before .before .before .before .before .before .before .before .before .before .before .before .before .before .before .pre in
     unfold tally oneQubitKind in omega (arith, pre .variables)
 
 same-length : tie.Need-same-length
@@ -61,10 +57,9 @@ returns c =
     let at-single = at-wire .before .before .before in
     let start = at-single .before .before .before .before .before .before in
     let a = start .args in
-    let pre = start .pre in
     let phase = at-put-product .put-product in
     hadamard-leaves (a .run) (a .q) (lent (a .ws) (a .fs) (a .sets) (a .coeffs)) _ _ (at-wire .wire .result) _ (phase .result) _
-    (pre .started)
+    (start .pre .started)
     refl
     (at-wire .wire .ensures)
     (ap of (at-single .single .ensures))

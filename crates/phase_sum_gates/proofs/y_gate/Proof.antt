@@ -11,20 +11,17 @@ use Rattle.phase_sum_gates.proofs.y_gate.Tie as tie
 
 wire-requires : tie.Need-wire-requires
 wire-requires c κs =
-    let start = c .before .before .before .before .before .before in
-    let pre = start .pre in
+    let pre = c .before .before .before .before .before .before .pre in
     (pre .within .0, omega (arith, pre .within .0, pre .flips))
 
 put-phase-requires : tie.Need-put-phase-requires
 put-phase-requires c κs =
-    let start = c .before .before .before .before .before .before .before .before .before in
-    let pre = start .pre in
+    let pre = c .before .before .before .before .before .before .before .before .before .pre in
     unfold tally roomFor in (omega (arith, pre .sets), omega (arith, pre .coeffs))
 
 flip-wire-requires : tie.Need-flip-wire-requires
 flip-wire-requires c κs =
-    let start = c .before .before .before .before .before .before .before .before .before .before .before .before .before .before .before in
-    let pre = start .pre in
+    let pre = c .before .before .before .before .before .before .before .before .before .before .before .before .before .before .before .pre in
     (pre .within .0, omega (arith, pre .within .0, pre .flips))
 
 add-requires : tie.Need-add-requires
@@ -46,11 +43,10 @@ returns c =
     let at-wire = at-put-phase .before .before .before in
     let start = at-wire .before .before .before .before .before .before .before in
     let a = start .args in
-    let pre = start .pre in
     let phase = at-put-phase .put-phase in
     y-leaves (a .run) (a .q) (lent (a .ws) (a .fs) (a .sets) (a .coeffs)) _ (at-wire .wire .result) (phase .result)
     (c .add .result)
-    (pre .started)
+    (start .pre .started)
     (at-wire .wire .ensures)
     (phase .ensures)
     (x-moved (a .q) _ _ (at-flip-wire .flip-wire .ensures))
