@@ -20,9 +20,7 @@ wire-requires-2 c κs =
     (pre .within .0 .1, omega (arith, pre .within .0 .1, pre .flips))
 
 put-product-requires : tie.Need-put-product-requires
-put-product-requires c κs =
-    let pre = c .before .before .before .before .before .before .before .before .before .pre in
-    unfold tally roomFor in (omega (arith, pre .sets), omega (arith, pre .coeffs))
+put-product-requires c κs = unfold tally roomFor in (omega arith, omega arith)
 
 same-length : tie.Need-same-length
 same-length c = search needs

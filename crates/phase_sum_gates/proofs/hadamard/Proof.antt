@@ -13,9 +13,7 @@ use Rattle.phase_sum_gates.proofs.hadamard.Statement.{statement}
 use Rattle.phase_sum_gates.proofs.hadamard.Tie as tie
 
 single-requires : tie.Need-single-requires
-single-requires c κs =
-    let pre = c .before .before .before .before .before .pre in
-    unfold tally oneQubitKind in omega (arith, pre .variables)
+single-requires c κs = unfold tally oneQubitKind in omega arith
 
 wire-requires : tie.Need-wire-requires
 wire-requires c κs =
@@ -23,9 +21,7 @@ wire-requires c κs =
     (pre .within .0, omega (arith, pre .within .0, pre .flips))
 
 put-product-requires : tie.Need-put-product-requires
-put-product-requires c κs =
-    let pre = c .before .before .before .before .before .before .before .before .before .before .before .pre in
-    unfold tally roomFor in (omega (arith, pre .sets), omega (arith, pre .coeffs))
+put-product-requires c κs = unfold tally roomFor in (omega arith, omega arith)
 
 set-wire-requires : tie.Need-set-wire-requires
 set-wire-requires c κs =
@@ -33,9 +29,7 @@ set-wire-requires c κs =
     (pre .within .0, omega (arith, pre .within .0, pre .flips))
 
 add-t26 : tie.Need-add-t26
-add-t26 c =
-    let pre = c .before .before .before .before .before .before .before .before .before .before .before .before .before .before .before .before .before .before .before .before .before .before .before .pre in
-    unfold tally oneQubitKind in omega (arith, pre .variables)
+add-t26 c = unfold tally oneQubitKind in omega arith
 
 same-length : tie.Need-same-length
 same-length c = search needs

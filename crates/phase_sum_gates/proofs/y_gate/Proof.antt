@@ -15,9 +15,7 @@ wire-requires c κs =
     (pre .within .0, omega (arith, pre .within .0, pre .flips))
 
 put-phase-requires : tie.Need-put-phase-requires
-put-phase-requires c κs =
-    let pre = c .before .before .before .before .before .before .before .before .before .pre in
-    unfold tally roomFor in (omega (arith, pre .sets), omega (arith, pre .coeffs))
+put-phase-requires c κs = unfold tally roomFor in (omega arith, omega arith)
 
 flip-wire-requires : tie.Need-flip-wire-requires
 flip-wire-requires c κs =
