@@ -10,14 +10,10 @@ use Rattle.phase_sum_gates.proofs.controlled_z.Statement.{statement}
 use Rattle.phase_sum_gates.proofs.controlled_z.Tie as tie
 
 wire-requires : tie.Need-wire-requires
-wire-requires c κs =
-    let pre = c .before .before .before .before .before .pre in
-    (pre .within .0 .0, omega (arith, pre .within .0 .0, pre .flips))
+wire-requires c κs = search needs
 
 wire-requires-2 : tie.Need-wire-requires-2
-wire-requires-2 c κs =
-    let pre = c .before .before .before .before .before .before .pre in
-    (pre .within .0 .1, omega (arith, pre .within .0 .1, pre .flips))
+wire-requires-2 c κs = search needs
 
 put-product-requires : tie.Need-put-product-requires
 put-product-requires c κs = unfold tally roomFor in (omega arith, omega arith)

@@ -16,17 +16,13 @@ single-requires : tie.Need-single-requires
 single-requires c κs = unfold tally oneQubitKind in omega arith
 
 wire-requires : tie.Need-wire-requires
-wire-requires c κs =
-    let pre = c .before .before .before .before .before .before .before .before .pre in
-    (pre .within .0, omega (arith, pre .within .0, pre .flips))
+wire-requires c κs = search needs
 
 put-product-requires : tie.Need-put-product-requires
 put-product-requires c κs = unfold tally roomFor in (omega arith, omega arith)
 
 set-wire-requires : tie.Need-set-wire-requires
-set-wire-requires c κs =
-    let pre = c .before .before .before .before .before .before .before .before .before .before .before .before .before .before .before .before .before .before .pre in
-    (pre .within .0, omega (arith, pre .within .0, pre .flips))
+set-wire-requires c κs = search needs
 
 add-t26 : tie.Need-add-t26
 add-t26 c = unfold tally oneQubitKind in omega arith

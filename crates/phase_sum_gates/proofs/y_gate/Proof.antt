@@ -10,17 +10,13 @@ use Rattle.phase_sum_gates.proofs.y_gate.Statement.{statement}
 use Rattle.phase_sum_gates.proofs.y_gate.Tie as tie
 
 wire-requires : tie.Need-wire-requires
-wire-requires c κs =
-    let pre = c .before .before .before .before .before .before .pre in
-    (pre .within .0, omega (arith, pre .within .0, pre .flips))
+wire-requires c κs = search needs
 
 put-phase-requires : tie.Need-put-phase-requires
 put-phase-requires c κs = unfold tally roomFor in (omega arith, omega arith)
 
 flip-wire-requires : tie.Need-flip-wire-requires
-flip-wire-requires c κs =
-    let pre = c .before .before .before .before .before .before .before .before .before .before .before .before .before .before .before .pre in
-    (pre .within .0, omega (arith, pre .within .0, pre .flips))
+flip-wire-requires c κs = search needs
 
 add-requires : tie.Need-add-requires
 add-requires c κs = search needs
