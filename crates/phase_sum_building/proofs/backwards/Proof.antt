@@ -58,17 +58,9 @@ abbrev μ-loop : tie.MeasureT-loop
 abbrev to-test : tie.After-moves Inv-loop μ-loop → tie.In-loop Inv-loop μ-loop
 to-test c = c .before .before .before .before
 
--- from the end of the branch of `move_wires` to where it had answered
-abbrev to-move-wires : tie.After-slice-known6 Inv-loop μ-loop → tie.After-move-wires Inv-loop μ-loop
-to-move-wires c = c .before .before .before .before
-
 -- from the call of `run_gate` to where `inverse_kind` had answered
 abbrev to-inverse-kind : tie.After-run-gate-arg4 Inv-loop μ-loop → tie.After-inverse-kind Inv-loop μ-loop
 to-inverse-kind c = c .before .before .before .before
-
--- from the end of the branch of `run_gate` to where it had answered
-abbrev to-run-gate : tie.After-slice-known10 Inv-loop μ-loop → tie.After-run-gate Inv-loop μ-loop
-to-run-gate c = c .before .before .before .before .before .before .before .before
 
 -- a gate that only moves wires is its own inverse
 own : (c : tie.Then1 Inv-loop μ-loop) →
@@ -115,11 +107,11 @@ move-wires-requires c κs =
     (own then .0, fit .within .0, fit .flips)
 
 loop-less : tie.Need-loop-less Inv-loop μ-loop
-loop-less c = omega (arith, to-test (to-move-wires c .before .before .before .before) .loop-test .taken)
+loop-less c = omega arith
 
 loop-again : tie.Need-loop-again Inv-loop μ-loop
 loop-again c =
-    let at-move-wires = to-move-wires c in
+    let at-move-wires = c .before .before .before .before in
     let moved = at-move-wires .move-wires in
     let kept = moved .kept .1 .1 .1 in
     let then = at-move-wires .before .before .before in
@@ -142,11 +134,11 @@ run-gate-requires c κs =
     )
 
 loop-less-2 : tie.Need-loop-less-2 Inv-loop μ-loop
-loop-less-2 c = omega (arith, to-test (to-inverse-kind (to-run-gate c .before) .before .before) .loop-test .taken)
+loop-less-2 c = omega arith
 
 loop-again-2 : tie.Need-loop-again-2 Inv-loop μ-loop
 loop-again-2 c =
-    let at-run-gate = to-run-gate c in
+    let at-run-gate = c .before .before .before .before .before .before .before .before in
     let kept = at-run-gate .run-gate .kept .1 .1 .1 .1 in
     let at-inverse-kind = to-inverse-kind (at-run-gate .before) in
     let test = to-test (at-inverse-kind .before .before) in

@@ -50,17 +50,9 @@ abbrev μ-loop : tie.MeasureT-loop
 abbrev moving : tie.After-move-wires-arg2 Inv-loop μ-loop → tie.In-loop Inv-loop μ-loop
 moving c = c .before .before .before .before .before .before .before
 
--- from the end of that branch to where it had answered
-abbrev to-move-wires : tie.After-slice-known6 Inv-loop μ-loop → tie.After-move-wires Inv-loop μ-loop
-to-move-wires c = c .before .before .before .before
-
 -- from the call of `run_gate` to the loop's test
 abbrev running : tie.After-run-gate-arg4 Inv-loop μ-loop → tie.In-loop Inv-loop μ-loop
 running c = c .before .before .before .before .before .before .before .before .before
-
--- from the end of that branch to where it had answered
-abbrev to-run-gate : tie.After-slice-known10 Inv-loop μ-loop → tie.After-run-gate Inv-loop μ-loop
-to-run-gate c = c .before .before .before .before .before .before .before .before
 
 loop-holds : tie.Need-loop-holds Inv-loop μ-loop
 loop-holds c =
@@ -96,11 +88,11 @@ move-wires-requires c κs =
     (sym (if1 .before .moves .ensures _ _) ∙ if1 .if1 .taken, fit .within .0, fit .flips)
 
 loop-less : tie.Need-loop-less Inv-loop μ-loop
-loop-less c = omega (arith, moving (to-move-wires c .before) .loop-test .taken)
+loop-less c = omega arith
 
 loop-again : tie.Need-loop-again Inv-loop μ-loop
 loop-again c =
-    let at-move-wires = to-move-wires c in
+    let at-move-wires = c .before .before .before .before in
     let moved = at-move-wires .move-wires in
     let kept = moved .kept .1 .1 .1 in
     let test = moving (at-move-wires .before) in
@@ -116,11 +108,11 @@ run-gate-requires c κs =
     (sym (if1 .before .moves .ensures _ _) ∙ if1 .if1 .left, fits (test .loop-test .taken) (test .before .loop .inv))
 
 loop-less-2 : tie.Need-loop-less-2 Inv-loop μ-loop
-loop-less-2 c = omega (arith, running (to-run-gate c .before) .loop-test .taken)
+loop-less-2 c = omega arith
 
 loop-again-2 : tie.Need-loop-again-2 Inv-loop μ-loop
 loop-again-2 c =
-    let at-run-gate = to-run-gate c in
+    let at-run-gate = c .before .before .before .before .before .before .before .before in
     let kept = at-run-gate .run-gate .kept .1 .1 .1 .1 in
     let test = running (at-run-gate .before) in
     ran (test .loop-test .taken) (test .before .loop .inv) (at-run-gate .run-gate .ensures)
