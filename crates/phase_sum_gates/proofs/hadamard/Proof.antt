@@ -25,7 +25,7 @@ set-wire-requires : tie.Need-set-wire-requires
 set-wire-requires c κs = search needs
 
 add-t26 : tie.Need-add-t26
-add-t26 c = unfold tally oneQubitKind in omega arith
+add-t26 c = search needs
 
 same-length : tie.Need-same-length
 same-length c = search needs

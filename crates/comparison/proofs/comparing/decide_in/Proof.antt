@@ -39,9 +39,7 @@ pin-requires c κs =
     (e .pre .1 .sets) (e .pre .1 .coeffs)
 
 reduce-end-requires : tie.Need-reduce-end-requires
-reduce-end-requires c κs =
-    let at-pin = c .before .before .before .before .before .before .before .before .before .before .before .before in
-    (at-pin .pin .ensures .steps, at-pin .pin .ensures .sized)
+reduce-end-requires c κs = search needs
 
 judge-requires : tie.Need-judge-requires
 judge-requires c κs =
