@@ -18,7 +18,7 @@ use Rattle.phase_sum_building.proofs.backwards.Statement.{statement}
 use Rattle.phase_sum_building.proofs.backwards.Tie as tie
 
 -- of the gates that are to run on s with l, those before place i still are, on r with l′
-record Left (bytes : List ℕ) (i : ℕ) (s r : Run) (l l′ : Lent) : Type 0 where
+record Pending (bytes : List ℕ) (i : ℕ) (s r : Run) (l l′ : Lent) : Type 0 where
   within : i ≤ length bytes
   threes : i % 3 ≡ 0
   run :
@@ -26,22 +26,22 @@ record Left (bytes : List ℕ) (i : ℕ) (s r : Run) (l l′ : Lent) : Type 0 wh
       (s .phase .count) r l l′
 
 module _
-    {bytes : List ℕ} {i : ℕ} {s r : Run} {l l′ : Lent} (some : 0 < i) (left : Left bytes i s r l l′) {g : Gate}
-    (first : g ≡ inverseAt bytes (i - 3))
+    {bytes : List ℕ} {i : ℕ} {s r : Run} {l l′ : Lent} (some : 0 < i) (pending : Pending bytes i s r l l′) {g : Gate}
+    (next : g ≡ inverseAt bytes (i - 3))
   where
-    -- the first of them
-    first-run :
+    -- the next of them
+    next-run :
         ToRun (appendGates (length (l .wires)) (inverseList (gatesIn bytes)) (sumIn s l)) (g ∷ inverseList (gatesIn (take (i - 3) bytes)))
         (s .phase .count) r l l′
-    first-run = rw (first, ← inverse-before bytes i (left .threes) some (left .within)) (left .run)
+    next-run = rw (next, ← inverse-before bytes i (pending .threes) some (pending .within)) (pending .run)
 
     -- it fits
     fits : Runnable r (g ∷ []) l′
-    fits = first-fit (g ∷ []) _ first-run
+    fits = first-fit (g ∷ []) _ next-run
 
-    -- once it has run, those before it are left
-    ran : {r′ : Run} {l″ : Lent} → Runs g r r′ l′ l″ → AsLong l′ l″ → Left bytes (i - 3) s r′ l l″
-    ran leaves long = record { within = omega arith; threes = omega arith; run = one-run g _ r first-run leaves long }
+    -- once it has run, those before it remain
+    ran : {r′ : Run} {l″ : Lent} → Runs g r r′ l′ l″ → AsLong l′ l″ → Pending bytes (i - 3) s r′ l l″
+    ran leaves long = record { within = omega arith; threes = omega arith; run = one-run g _ r next-run leaves long }
 
 -- a gate by its kind, which is another's
 same-kind : {k m : ℕ} (a b : ℕ) → k ≡ m → gateOf (raw k a b) ≡ gateOf (raw m a b)
@@ -49,7 +49,7 @@ same-kind a b e = rw e
 
 abbrev Inv-loop : tie.InvT-loop
 Inv-loop gates ws₀ fs₀ sets₀ coeffs₀ now₀ i₀ ws fs sets coeffs now i =
-    Left gates i now₀ now (slices ws₀ fs₀ sets₀ coeffs₀) (slices ws fs sets coeffs)
+    Pending gates i now₀ now (slices ws₀ fs₀ sets₀ coeffs₀) (slices ws fs sets coeffs)
 
 abbrev μ-loop : tie.MeasureT-loop
 μ-loop gates ws₀ fs₀ sets₀ coeffs₀ now₀ i₀ ws fs sets coeffs now i = i
@@ -117,8 +117,8 @@ loop-again c =
     let then = at-move-wires .before .before .before in
     let test = to-test (then .before) in
     let some = test .loop-test .taken in
-    let left = test .before .loop .inv in
-    ran some left (own then .1) (moves-leaves _ _ _ _ _ (fits some left (own then .1)) (moved .ensures))
+    let pending = test .before .loop .inv in
+    ran some pending (own then .1) (moves-leaves _ _ _ _ _ (fits some pending (own then .1)) (moved .ensures))
     (record { wires = kept .0; flips = kept .1 .0; sets = refl; coeffs = refl })
 
 inverse-kind-requires : tie.Need-inverse-kind-requires Inv-loop μ-loop

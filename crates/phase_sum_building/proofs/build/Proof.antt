@@ -40,8 +40,8 @@ abbrev to-path-variables : tie.After-canonical → tie.After-path-variables
 to-path-variables c = c .before .before .before
 
 -- of the pair's gates, gs are still to run
-abbrev Left : tie.Start → List Gate → Run → Lent → Type 0
-Left c gs r l =
+abbrev Pending : tie.Start → List Gate → Run → Lent → Type 0
+Pending c gs r l =
     let a = c .args in
     let n = length (now (a .ws)) in
     ToRun (appendGates n (miterIn (now (a .first)) (now (a .second))) (initial 0 n)) gs 0 r
@@ -51,7 +51,7 @@ Left c gs r l =
 half : (c : tie.After-forwards) →
     let e = entry (to-start c) in
     let last = c .forwards .last .1 .1 in
-    Left e (inverseList (gatesIn (now (e .args .second)))) (c .forwards .result)
+    Pending e (inverseList (gatesIn (now (e .args .second)))) (c .forwards .result)
     (slices (last .0) (last .1 .0) (last .1 .1 .0) (last .1 .1 .1 .0))
 half c =
     let at-start = to-start c in
@@ -66,7 +66,7 @@ half c =
 -- after both none is
 whole : (c : tie.After-backwards) →
     let last = c .backwards .last .1 .1 in
-    Left (entry (to-start (to-forwards c))) [] (c .backwards .result) (slices (last .0) (last .1 .0) (last .1 .1 .0) (last .1 .1 .1 .0))
+    Pending (entry (to-start (to-forwards c))) [] (c .backwards .result) (slices (last .0) (last .1 .0) (last .1 .1 .0) (last .1 .1 .1 .0))
 whole c =
     let at-forwards = to-forwards c in
     let kept = c .backwards .kept .1 .1 in

@@ -14,34 +14,34 @@ use Rattle.phase_sum_building.proofs.forwards.Statement.{statement}
 use Rattle.phase_sum_building.proofs.forwards.Tie as tie
 
 -- of the gates that are to run on s with l, those from place i on still are, on r with l′
-record Left (bytes : List ℕ) (i : ℕ) (s r : Run) (l l′ : Lent) : Type 0 where
+record Pending (bytes : List ℕ) (i : ℕ) (s r : Run) (l l′ : Lent) : Type 0 where
   within : i ≤ length bytes
   threes : (length bytes - i) % 3 ≡ 0
   run : ToRun (appendGates (length (l .wires)) (gatesIn bytes) (sumIn s l)) (gatesIn (drop i bytes)) (s .phase .count) r l l′
 
-module _ {bytes : List ℕ} {i : ℕ} {s r : Run} {l l′ : Lent} (some : i < length bytes) (left : Left bytes i s r l l′) where
-  -- the first of them is the one at place i
-  first-run :
+module _ {bytes : List ℕ} {i : ℕ} {s r : Run} {l l′ : Lent} (some : i < length bytes) (pending : Pending bytes i s r l l′) where
+  -- the next is the one at place i
+  next-run :
       ToRun (appendGates (length (l .wires)) (gatesIn bytes) (sumIn s l)) (gateAt bytes i ∷ gatesIn (drop (i + 3) bytes)) (s .phase .count)
       r l l′
-  first-run = rw (gates-from bytes i (omega arith)) at (left .run)
+  next-run = rw (gates-from bytes i (omega arith)) at (pending .run)
 
   -- it fits
   fits : Runnable r (gateAt bytes i ∷ []) l′
-  fits = first-fit (gateAt bytes i ∷ []) _ first-run
+  fits = first-fit (gateAt bytes i ∷ []) _ next-run
 
-  -- once it has run, those from the next place on are left
-  ran : {r′ : Run} {l″ : Lent} → Runs (gateAt bytes i) r r′ l′ l″ → AsLong l′ l″ → Left bytes (i + 3) s r′ l l″
-  ran leaves long = record { within = omega arith; threes = omega arith; run = one-run _ _ r first-run leaves long }
+  -- once it has run, those from the next place on remain
+  ran : {r′ : Run} {l″ : Lent} → Runs (gateAt bytes i) r r′ l′ l″ → AsLong l′ l″ → Pending bytes (i + 3) s r′ l l″
+  ran leaves long = record { within = omega arith; threes = omega arith; run = one-run _ _ r next-run leaves long }
 
 -- at the end of the bytes all have run
-all-ran : {bytes : List ℕ} {i : ℕ} {s r : Run} {l l′ : Lent} → length bytes ≤ i → Left bytes i s r l l′ → RunsAll (gatesIn bytes) s r l l′
+all-ran : {bytes : List ℕ} {i : ℕ} {s r : Run} {l l′ : Lent} → length bytes ≤ i → Pending bytes i s r l l′ → RunsAll (gatesIn bytes) s r l l′
 unfolding raws
-all-ran {bytes} none left = all-run (rw (drop-of-length-le bytes none) at (left .run))
+all-ran {bytes} none pending = all-run (rw (drop-of-length-le bytes none) at (pending .run))
 
 abbrev Inv-loop : tie.InvT-loop
 Inv-loop gates ws₀ fs₀ sets₀ coeffs₀ now₀ i₀ ws fs sets coeffs now i =
-    Left gates i now₀ now (slices ws₀ fs₀ sets₀ coeffs₀) (slices ws fs sets coeffs)
+    Pending gates i now₀ now (slices ws₀ fs₀ sets₀ coeffs₀) (slices ws fs sets coeffs)
 
 abbrev μ-loop : tie.MeasureT-loop
 μ-loop gates ws₀ fs₀ sets₀ coeffs₀ now₀ i₀ ws fs sets coeffs now i = length gates - i
@@ -97,8 +97,8 @@ loop-again c =
     let kept = moved .kept .1 .1 .1 in
     let test = moving (at-move-wires .before) in
     let some = test .loop-test .taken in
-    let left = test .before .loop .inv in
-    ran some left (moves-leaves _ _ _ _ _ (fits some left) (moved .ensures))
+    let pending = test .before .loop .inv in
+    ran some pending (moves-leaves _ _ _ _ _ (fits some pending) (moved .ensures))
     (record { wires = kept .0; flips = kept .1 .0; sets = refl; coeffs = refl })
 
 run-gate-requires : tie.Need-run-gate-requires Inv-loop μ-loop
