@@ -1,36 +1,82 @@
 -- `phase_sum_building::backwards` meets its contract. The loop's invariant: the gates before place i, backwards and inverted, are still to run.
 -- Assumes nothing.
 use mathlib.Core.Path.{_≡_, refl, sym, _∙_}
-use mathlib.Core.List.{[], _∷_}
-use Prim.Native.Nat.{_+_, _-_, _%_, _≤_}
+use mathlib.Core.Bool.{true}
+use mathlib.Core.List.{List, [], _∷_}
+use Prim.Native.Nat.{ℕ, _-_, _%_, _≤_, _<_}
 use native.Mathlib.Omega.{arith}
-use lib.ListN.{length, take, getD}
+use lib.ListN.{length, take}
 use lib.Seq.{take-length}
 use denote.Ref.{now}
-use Rattle.record_format.specs.Gate.{inverseList}
+use Rattle.record_format.specs.Gate.{Gate, raw, gateOf, inverseList}
 use Rattle.record_format.specs.Reading.{raws}
-use Rattle.phase_sum_terms.specs.Workspace.{slices, lent}
-use Rattle.phase_sum_terms.specs.Unmerged.{gatesIn, appendGates, sumIn}
-use Rattle.phase_sum_terms.proofs.Running.{ToRun, none-run, one-run, all-run, first-fit, moves-leaves, gateAt, inverseAt, inverse-before, inverse-moves, inverse-stays}
+use Rattle.phase_sum_terms.specs.declared.Run.{Run}
+use Rattle.phase_sum_terms.specs.Workspace.{Lent, slices}
+use Rattle.phase_sum_terms.specs.Unmerged.{gatesIn, appendGates, sumIn, movesOnly, Runnable, Runs}
+use Rattle.phase_sum_terms.proofs.Running.{AsLong, ToRun, none-run, one-run, all-run, first-fit, moves-leaves, gateAt, inverseAt, inverse-before, inverse-moves, inverse-stays}
 use Rattle.phase_sum_building.proofs.backwards.Statement.{statement}
 use Rattle.phase_sum_building.proofs.backwards.Tie as tie
 
+-- of the gates that are to run on s with l, those before place i still are, on r with l′
+record Pending (bytes : List ℕ) (i : ℕ) (s r : Run) (l l′ : Lent) : Type 0 where
+  within : i ≤ length bytes
+  threes : i % 3 ≡ 0
+  run :
+      ToRun (appendGates (length (l .wires)) (inverseList (gatesIn bytes)) (sumIn s l)) (inverseList (gatesIn (take i bytes)))
+      (s .phase .count) r l l′
+
+module _
+    {bytes : List ℕ} {i : ℕ} {s r : Run} {l l′ : Lent} (some : 0 < i) (pending : Pending bytes i s r l l′) {g : Gate}
+    (next : g ≡ inverseAt bytes (i - 3))
+  where
+    -- the next of them
+    next-run :
+        ToRun (appendGates (length (l .wires)) (inverseList (gatesIn bytes)) (sumIn s l)) (g ∷ inverseList (gatesIn (take (i - 3) bytes)))
+        (s .phase .count) r l l′
+    next-run = rw (next, ← inverse-before bytes i (pending .threes) some (pending .within)) (pending .run)
+
+    -- it fits
+    fits : Runnable r (g ∷ []) l′
+    fits = first-fit (g ∷ []) _ next-run
+
+    -- once it has run, those before it remain
+    ran : {r′ : Run} {l″ : Lent} → Runs g r r′ l′ l″ → AsLong l′ l″ → Pending bytes (i - 3) s r′ l l″
+    ran leaves long = record { within = omega arith; threes = omega arith; run = one-run g _ r next-run leaves long }
+
+-- a gate by its kind, which is another's
+same-kind : {k m : ℕ} (a b : ℕ) → k ≡ m → gateOf (raw k a b) ≡ gateOf (raw m a b)
+same-kind a b e = rw e
+
 abbrev Inv-loop : tie.InvT-loop
 Inv-loop gates ws₀ fs₀ sets₀ coeffs₀ now₀ i₀ ws fs sets coeffs now i =
-    (i ≤ length gates)
-    × (i % 3 ≡ 0)
-    × ToRun (appendGates (length ws₀) (inverseList (gatesIn gates)) (sumIn now₀ (slices ws₀ fs₀ sets₀ coeffs₀)))
-    (inverseList (gatesIn (take i gates))) (now₀ .phase .count) now (slices ws₀ fs₀ sets₀ coeffs₀) (slices ws fs sets coeffs)
+    Pending gates i now₀ now (slices ws₀ fs₀ sets₀ coeffs₀) (slices ws fs sets coeffs)
 
 abbrev μ-loop : tie.MeasureT-loop
 μ-loop gates ws₀ fs₀ sets₀ coeffs₀ now₀ i₀ ws fs sets coeffs now i = i
 
+-- from where `moves` has answered to the loop's test
+abbrev to-test : tie.After-moves Inv-loop μ-loop → tie.In-loop Inv-loop μ-loop
+to-test c = c .before .before .before .before
+
+-- from the call of `run_gate` to where `inverse_kind` had answered
+abbrev to-inverse-kind : tie.After-run-gate-arg4 Inv-loop μ-loop → tie.After-inverse-kind Inv-loop μ-loop
+to-inverse-kind c = c .before .before .before .before
+
+-- a gate that only moves wires is its own inverse
+own : (c : tie.Then1 Inv-loop μ-loop) →
+    let at-loop = to-test (c .before) .before in
+    let bytes = now (at-loop .before .before .before .before .before .before .args .gates) in
+    let j = at-loop .loop .i - 3 in
+    (movesOnly (gateAt bytes j) ≡ true) × (gateAt bytes j ≡ inverseAt bytes j)
+own c =
+    let only = sym (c .before .moves .ensures _ _) ∙ c .if1 .taken in
+    (only, sym (inverse-moves _ _ _ only))
+
 loop-holds : tie.Need-loop-holds Inv-loop μ-loop
 loop-holds c =
-    let a = c .before .before .before .before .before .args in
-    let bytes = now (a .gates) in
-    let none = none-run (a .run) (inverseList (gatesIn bytes)) (lent (a .ws) (a .fs) (a .sets) (a .coeffs)) (c .before .before .before .before .before .pre .1) in
-    (omega arith, omega (arith, c .before .before .before .before .before .pre .0), rw (take-length bytes) none)
+    let start = c .before .before .before .before .before in
+    let whole = take-length (now (start .args .gates)) in
+    record { within = omega arith; threes = omega (arith, start .pre .0); run = rw whole (none-run _ _ _ (start .pre .1)) }
 
 sub-i : tie.Need-sub-i Inv-loop μ-loop
 sub-i c = omega arith
@@ -55,115 +101,68 @@ moves-requires c κs = tt
 
 move-wires-requires : tie.Need-move-wires-requires Inv-loop μ-loop
 move-wires-requires c κs =
-    let at-moves = c .before .before .before in
-    let in-loop = at-moves .before .before .before .before in
-    let at-loop = in-loop .before in
-    let start = at-loop .before .before .before .before .before .before in
-    let loop = at-loop .loop in
-    let bytes = now (start .args .gates) in
-    let i = loop .i in
-    let some = in-loop .loop-test .taken in
-    let first = inverse-before bytes i (omega (arith, loop .inv .1)) (omega (arith, some)) (omega (arith, loop .inv .0)) in
-    let only = sym (at-moves .moves .ensures (getD bytes (i - 3 + 1) 0) (getD bytes (i - 3 + 2) 0)) ∙ c .before .before .if1 .taken in
-    let same = inverse-moves (getD bytes (i - 3) 0) (getD bytes (i - 3 + 1) 0) (getD bytes (i - 3 + 2) 0) only in
-    let fits = first-fit (gateAt bytes (i - 3) ∷ []) _ (rw same at (rw first at (loop .inv .2))) in
-    (only, fits .within .0, fits .flips)
+    let then = c .before .before in
+    let test = to-test (then .before) in
+    let fit = fits (test .loop-test .taken) (test .before .loop .inv) (own then .1) in
+    (own then .0, fit .within .0, fit .flips)
 
 loop-less : tie.Need-loop-less Inv-loop μ-loop
-loop-less c =
-    let in-loop = c .before .before .before .before .before .before .before .before .before .before .before .before in
-    omega (arith, in-loop .loop-test .taken)
+loop-less c = omega arith
 
 loop-again : tie.Need-loop-again Inv-loop μ-loop
 loop-again c =
     let at-move-wires = c .before .before .before .before in
-    let at-if1 = at-move-wires .before .before .before in
-    let at-moves = at-if1 .before in
-    let in-loop = at-moves .before .before .before .before in
-    let at-loop = in-loop .before in
-    let start = at-loop .before .before .before .before .before .before in
-    let loop = at-loop .loop in
-    let bytes = now (start .args .gates) in
-    let i = loop .i in
-    let some = in-loop .loop-test .taken in
-    let first = inverse-before bytes i (omega (arith, loop .inv .1)) (omega (arith, some)) (omega (arith, loop .inv .0)) in
-    let only = sym (at-moves .moves .ensures (getD bytes (i - 3 + 1) 0) (getD bytes (i - 3 + 2) 0)) ∙ at-if1 .if1 .taken in
-    let same = inverse-moves (getD bytes (i - 3) 0) (getD bytes (i - 3 + 1) 0) (getD bytes (i - 3 + 2) 0) only in
-    let run = rw same at (rw first at (loop .inv .2)) in
-    let fits = first-fit (gateAt bytes (i - 3) ∷ []) _ run in
     let moved = at-move-wires .move-wires in
     let kept = moved .kept .1 .1 .1 in
-    let leaves = moves-leaves (loop .now) (gateAt bytes (i - 3)) _ _ _ fits (moved .ensures) in
-    let left =
-    one-run (gateAt bytes (i - 3)) (inverseList (gatesIn (take (i - 3) bytes))) (loop .now) run leaves
+    let then = at-move-wires .before .before .before in
+    let test = to-test (then .before) in
+    let some = test .loop-test .taken in
+    let pending = test .before .loop .inv in
+    ran some pending (own then .1) (moves-leaves _ _ _ _ _ (fits some pending (own then .1)) (moved .ensures))
     (record { wires = kept .0; flips = kept .1 .0; sets = refl; coeffs = refl })
-    in
-    (omega (arith, some, loop .inv .0), omega (arith, some, loop .inv .1), left)
 
 inverse-kind-requires : tie.Need-inverse-kind-requires Inv-loop μ-loop
 inverse-kind-requires c κs = tt
 
 run-gate-requires : tie.Need-run-gate-requires Inv-loop μ-loop
 run-gate-requires c κs =
-    let at-inverse-kind = c .before .before .before .before in
-    let at-if1 = at-inverse-kind .before in
-    let at-moves = at-if1 .before in
-    let in-loop = at-moves .before .before .before .before in
-    let at-loop = in-loop .before in
-    let start = at-loop .before .before .before .before .before .before in
-    let loop = at-loop .loop in
-    let bytes = now (start .args .gates) in
-    let i = loop .i in
-    let some = in-loop .loop-test .taken in
-    let first = inverse-before bytes i (omega (arith, loop .inv .1)) (omega (arith, some)) (omega (arith, loop .inv .0)) in
-    let stays = sym (at-moves .moves .ensures (getD bytes (i - 3 + 1) 0) (getD bytes (i - 3 + 2) 0)) ∙ at-if1 .if1 .left in
-    rw (at-inverse-kind .inverse-kind .ensures) (
-      inverse-stays (getD bytes (i - 3) 0) (getD bytes (i - 3 + 1) 0) (getD bytes (i - 3 + 2) 0) stays,
-      first-fit (inverseAt bytes (i - 3) ∷ []) _ (rw first at (loop .inv .2)),
+    let kind = to-inverse-kind c .inverse-kind .ensures in
+    let else = to-inverse-kind c .before in
+    let test = to-test (else .before) in (
+      rw kind (inverse-stays _ _ _ (sym (else .before .moves .ensures _ _) ∙ else .if1 .left)),
+      fits (test .loop-test .taken) (test .before .loop .inv) (same-kind _ _ kind),
     )
 
 loop-less-2 : tie.Need-loop-less-2 Inv-loop μ-loop
-loop-less-2 c =
-    let in-loop = c .before .before .before .before .before .before .before .before .before .before .before .before .before .before .before .before .before .before .before in
-    omega (arith, in-loop .loop-test .taken)
+loop-less-2 c = omega arith
 
 loop-again-2 : tie.Need-loop-again-2 Inv-loop μ-loop
 loop-again-2 c =
     let at-run-gate = c .before .before .before .before .before .before .before .before in
-    let at-inverse-kind = at-run-gate .before .before .before .before .before in
-    let in-loop = at-inverse-kind .before .before .before .before .before .before in
-    let at-loop = in-loop .before in
-    let start = at-loop .before .before .before .before .before .before in
-    let loop = at-loop .loop in
-    let bytes = now (start .args .gates) in
-    let i = loop .i in
-    let some = in-loop .loop-test .taken in
-    let first = inverse-before bytes i (omega (arith, loop .inv .1)) (omega (arith, some)) (omega (arith, loop .inv .0)) in
     let kept = at-run-gate .run-gate .kept .1 .1 .1 .1 in
-    let left =
-    one-run (inverseAt bytes (i - 3)) (inverseList (gatesIn (take (i - 3) bytes))) (loop .now) (rw first at (loop .inv .2))
-    (rw (at-inverse-kind .inverse-kind .ensures) at (at-run-gate .run-gate .ensures))
+    let at-inverse-kind = to-inverse-kind (at-run-gate .before) in
+    let test = to-test (at-inverse-kind .before .before) in
+    ran (test .loop-test .taken) (test .before .loop .inv) (same-kind _ _ (at-inverse-kind .inverse-kind .ensures))
+    (at-run-gate .run-gate .ensures)
     (record { wires = kept .0; flips = kept .1 .0; sets = kept .1 .1 .0; coeffs = kept .1 .1 .1 .0 })
-    in
-    (omega (arith, some, loop .inv .0), omega (arith, some, loop .inv .1), left)
 
 same-length : tie.Need-same-length Inv-loop μ-loop
-same-length c = c .before .loop .inv .2 .long .wires
+same-length c = c .before .loop .inv .run .long .wires
 
 same-length-2 : tie.Need-same-length-2 Inv-loop μ-loop
-same-length-2 c = c .before .loop .inv .2 .long .flips
+same-length-2 c = c .before .loop .inv .run .long .flips
 
 same-length-3 : tie.Need-same-length-3 Inv-loop μ-loop
-same-length-3 c = c .before .loop .inv .2 .long .sets
+same-length-3 c = c .before .loop .inv .run .long .sets
 
 same-length-4 : tie.Need-same-length-4 Inv-loop μ-loop
-same-length-4 c = c .before .loop .inv .2 .long .coeffs
+same-length-4 c = c .before .loop .inv .run .long .coeffs
 
 returns : tie.Need-returns Inv-loop μ-loop
 unfolding raws inverseList
 returns c =
     let done : c .before .loop .i ≡ 0 = omega arith in
-    all-run (rw done at (c .before .loop .inv .2))
+    all-run (rw done at (c .before .loop .inv .run))
 
 pub backwards-spec : {M : Type 1} → statement M
 backwards-spec =

@@ -1,33 +1,63 @@
 -- `phase_sum_building::forwards` meets its contract. The loop's invariant: the gates from place i on are still to run.
 -- Assumes nothing.
 use mathlib.Core.Path.{_≡_, refl, sym, _∙_}
-use mathlib.Core.List.{[], _∷_}
-use Prim.Native.Nat.{_+_, _-_, _%_, _≤_}
+use mathlib.Core.List.{List, [], _∷_}
+use Prim.Native.Nat.{ℕ, _+_, _-_, _%_, _≤_, _<_}
 use native.Mathlib.Omega.{arith}
 use lib.ListN.{length, drop, drop-of-length-le}
-use denote.Ref.{now}
 use Rattle.record_format.specs.Reading.{raws}
-use Rattle.phase_sum_terms.specs.Workspace.{slices, lent}
-use Rattle.phase_sum_terms.specs.Unmerged.{gatesIn, appendGates, sumIn}
-use Rattle.phase_sum_terms.proofs.Running.{ToRun, none-run, one-run, all-run, first-fit, moves-leaves, gateAt, gates-from}
+use Rattle.phase_sum_terms.specs.declared.Run.{Run}
+use Rattle.phase_sum_terms.specs.Workspace.{Lent, slices}
+use Rattle.phase_sum_terms.specs.Unmerged.{gatesIn, appendGates, sumIn, Runnable, Runs, RunsAll}
+use Rattle.phase_sum_terms.proofs.Running.{AsLong, ToRun, none-run, one-run, all-run, first-fit, moves-leaves, gateAt, gates-from}
 use Rattle.phase_sum_building.proofs.forwards.Statement.{statement}
 use Rattle.phase_sum_building.proofs.forwards.Tie as tie
 
+-- of the gates that are to run on s with l, those from place i on still are, on r with l′
+record Pending (bytes : List ℕ) (i : ℕ) (s r : Run) (l l′ : Lent) : Type 0 where
+  within : i ≤ length bytes
+  threes : (length bytes - i) % 3 ≡ 0
+  run : ToRun (appendGates (length (l .wires)) (gatesIn bytes) (sumIn s l)) (gatesIn (drop i bytes)) (s .phase .count) r l l′
+
+module _ {bytes : List ℕ} {i : ℕ} {s r : Run} {l l′ : Lent} (some : i < length bytes) (pending : Pending bytes i s r l l′) where
+  -- the next is the one at place i
+  next-run :
+      ToRun (appendGates (length (l .wires)) (gatesIn bytes) (sumIn s l)) (gateAt bytes i ∷ gatesIn (drop (i + 3) bytes)) (s .phase .count)
+      r l l′
+  next-run = rw (gates-from bytes i (omega arith)) at (pending .run)
+
+  -- it fits
+  fits : Runnable r (gateAt bytes i ∷ []) l′
+  fits = first-fit (gateAt bytes i ∷ []) _ next-run
+
+  -- once it has run, those from the next place on remain
+  ran : {r′ : Run} {l″ : Lent} → Runs (gateAt bytes i) r r′ l′ l″ → AsLong l′ l″ → Pending bytes (i + 3) s r′ l l″
+  ran leaves long = record { within = omega arith; threes = omega arith; run = one-run _ _ r next-run leaves long }
+
+-- at the end of the bytes all have run
+all-ran : {bytes : List ℕ} {i : ℕ} {s r : Run} {l l′ : Lent} → length bytes ≤ i → Pending bytes i s r l l′ → RunsAll (gatesIn bytes) s r l l′
+unfolding raws
+all-ran {bytes} none pending = all-run (rw (drop-of-length-le bytes none) at (pending .run))
+
 abbrev Inv-loop : tie.InvT-loop
 Inv-loop gates ws₀ fs₀ sets₀ coeffs₀ now₀ i₀ ws fs sets coeffs now i =
-    (i ≤ length gates)
-    × ((length gates - i) % 3 ≡ 0)
-    × ToRun (appendGates (length ws₀) (gatesIn gates) (sumIn now₀ (slices ws₀ fs₀ sets₀ coeffs₀))) (gatesIn (drop i gates))
-    (now₀ .phase .count) now (slices ws₀ fs₀ sets₀ coeffs₀) (slices ws fs sets coeffs)
+    Pending gates i now₀ now (slices ws₀ fs₀ sets₀ coeffs₀) (slices ws fs sets coeffs)
 
 abbrev μ-loop : tie.MeasureT-loop
 μ-loop gates ws₀ fs₀ sets₀ coeffs₀ now₀ i₀ ws fs sets coeffs now i = length gates - i
 
+-- from the call of `move_wires` to the loop's test
+abbrev moving : tie.After-move-wires-arg2 Inv-loop μ-loop → tie.In-loop Inv-loop μ-loop
+moving c = c .before .before .before .before .before .before .before
+
+-- from the call of `run_gate` to the loop's test
+abbrev running : tie.After-run-gate-arg4 Inv-loop μ-loop → tie.In-loop Inv-loop μ-loop
+running c = c .before .before .before .before .before .before .before .before .before
+
 loop-holds : tie.Need-loop-holds Inv-loop μ-loop
 loop-holds c =
-    let a = c .before .before .before .before .before .args in
-    let none = none-run (a .run) (gatesIn (now (a .gates))) (lent (a .ws) (a .fs) (a .sets) (a .coeffs)) (c .before .before .before .before .before .pre .1) in
-    (omega arith, omega (arith, c .before .before .before .before .before .pre .0), none)
+    let start = c .before .before .before .before .before in
+    record { within = omega arith; threes = omega (arith, start .pre .0); run = none-run _ _ _ (start .pre .1) }
 
 shared-slice-read-kind : tie.Need-shared-slice-read-kind Inv-loop μ-loop
 shared-slice-read-kind c = omega arith
@@ -52,97 +82,56 @@ moves-requires c κs = tt
 
 move-wires-requires : tie.Need-move-wires-requires Inv-loop μ-loop
 move-wires-requires c κs =
-    let at-moves = c .before .before .before in
-    let in-loop = at-moves .before .before .before .before in
-    let at-loop = in-loop .before in
-    let start = at-loop .before .before .before .before .before .before in
-    let loop = at-loop .loop in
-    let bytes = now (start .args .gates) in
-    let first = gates-from bytes (loop .i) (omega (arith, in-loop .loop-test .taken, loop .inv .0, loop .inv .1)) in
-    let fits = first-fit (gateAt bytes (loop .i) ∷ []) _ (rw first at (loop .inv .2)) in
-    (sym (at-moves .moves .ensures _ _) ∙ c .before .before .if1 .taken, fits .within .0, fits .flips)
+    let test = moving c in
+    let fit = fits (test .loop-test .taken) (test .before .loop .inv) in
+    let if1 = c .before .before in
+    (sym (if1 .before .moves .ensures _ _) ∙ if1 .if1 .taken, fit .within .0, fit .flips)
 
 loop-less : tie.Need-loop-less Inv-loop μ-loop
-loop-less c =
-    let in-loop = c .before .before .before .before .before .before .before .before .before .before .before .before in
-    omega (arith, in-loop .loop-test .taken)
+loop-less c = omega arith
 
 loop-again : tie.Need-loop-again Inv-loop μ-loop
 loop-again c =
     let at-move-wires = c .before .before .before .before in
-    let in-loop = at-move-wires .before .before .before .before .before .before .before .before in
-    let at-loop = in-loop .before in
-    let start = at-loop .before .before .before .before .before .before in
-    let loop = at-loop .loop in
-    let bytes = now (start .args .gates) in
-    let i = loop .i in
-    let some = in-loop .loop-test .taken in
-    let first = gates-from bytes i (omega (arith, some, loop .inv .0, loop .inv .1)) in
-    let run = rw first at (loop .inv .2) in
-    let fits = first-fit (gateAt bytes i ∷ []) _ run in
     let moved = at-move-wires .move-wires in
     let kept = moved .kept .1 .1 .1 in
-    let leaves = moves-leaves (loop .now) (gateAt bytes i) _ _ _ fits (moved .ensures) in
-    let left =
-    one-run (gateAt bytes i) (gatesIn (drop (i + 3) bytes)) (loop .now) run leaves
+    let test = moving (at-move-wires .before) in
+    let some = test .loop-test .taken in
+    let pending = test .before .loop .inv in
+    ran some pending (moves-leaves _ _ _ _ _ (fits some pending) (moved .ensures))
     (record { wires = kept .0; flips = kept .1 .0; sets = refl; coeffs = refl })
-    in
-    (omega (arith, some, loop .inv .0, loop .inv .1), omega (arith, some, loop .inv .0, loop .inv .1), left)
 
 run-gate-requires : tie.Need-run-gate-requires Inv-loop μ-loop
 run-gate-requires c κs =
-    let at-if1 = c .before .before .before .before in
-    let at-moves = at-if1 .before in
-    let in-loop = at-moves .before .before .before .before in
-    let at-loop = in-loop .before in
-    let start = at-loop .before .before .before .before .before .before in
-    let loop = at-loop .loop in
-    let bytes = now (start .args .gates) in
-    let first = gates-from bytes (loop .i) (omega (arith, in-loop .loop-test .taken, loop .inv .0, loop .inv .1)) in
-    let fits = first-fit (gateAt bytes (loop .i) ∷ []) _ (rw first at (loop .inv .2)) in
-    (sym (at-moves .moves .ensures _ _) ∙ at-if1 .if1 .left, fits)
+    let test = running c in
+    let if1 = c .before .before .before .before in
+    (sym (if1 .before .moves .ensures _ _) ∙ if1 .if1 .left, fits (test .loop-test .taken) (test .before .loop .inv))
 
 loop-less-2 : tie.Need-loop-less-2 Inv-loop μ-loop
-loop-less-2 c =
-    let in-loop = c .before .before .before .before .before .before .before .before .before .before .before .before .before .before .before .before .before .before in
-    omega (arith, in-loop .loop-test .taken)
+loop-less-2 c = omega arith
 
 loop-again-2 : tie.Need-loop-again-2 Inv-loop μ-loop
 loop-again-2 c =
     let at-run-gate = c .before .before .before .before .before .before .before .before in
-    let in-loop = at-run-gate .before .before .before .before .before .before .before .before .before .before in
-    let at-loop = in-loop .before in
-    let start = at-loop .before .before .before .before .before .before in
-    let loop = at-loop .loop in
-    let bytes = now (start .args .gates) in
-    let i = loop .i in
-    let some = in-loop .loop-test .taken in
-    let first = gates-from bytes i (omega (arith, some, loop .inv .0, loop .inv .1)) in
     let kept = at-run-gate .run-gate .kept .1 .1 .1 .1 in
-    let left =
-    one-run (gateAt bytes i) (gatesIn (drop (i + 3) bytes)) (loop .now) (rw first at (loop .inv .2)) (at-run-gate .run-gate .ensures)
+    let test = running (at-run-gate .before) in
+    ran (test .loop-test .taken) (test .before .loop .inv) (at-run-gate .run-gate .ensures)
     (record { wires = kept .0; flips = kept .1 .0; sets = kept .1 .1 .0; coeffs = kept .1 .1 .1 .0 })
-    in
-    (omega (arith, some, loop .inv .0, loop .inv .1), omega (arith, some, loop .inv .0, loop .inv .1), left)
 
 same-length : tie.Need-same-length Inv-loop μ-loop
-same-length c = c .before .loop .inv .2 .long .wires
+same-length c = c .before .loop .inv .run .long .wires
 
 same-length-2 : tie.Need-same-length-2 Inv-loop μ-loop
-same-length-2 c = c .before .loop .inv .2 .long .flips
+same-length-2 c = c .before .loop .inv .run .long .flips
 
 same-length-3 : tie.Need-same-length-3 Inv-loop μ-loop
-same-length-3 c = c .before .loop .inv .2 .long .sets
+same-length-3 c = c .before .loop .inv .run .long .sets
 
 same-length-4 : tie.Need-same-length-4 Inv-loop μ-loop
-same-length-4 c = c .before .loop .inv .2 .long .coeffs
+same-length-4 c = c .before .loop .inv .run .long .coeffs
 
 returns : tie.Need-returns Inv-loop μ-loop
-unfolding raws
-returns c =
-    let start = c .before .before .before .before .before .before .before in
-    let none = drop-of-length-le (now (start .args .gates)) (c .loop-test .left) in
-    all-run (rw none at (c .before .loop .inv .2))
+returns c = all-ran (c .loop-test .left) (c .before .loop .inv)
 
 pub forwards-spec : {M : Type 1} → statement M
 forwards-spec =

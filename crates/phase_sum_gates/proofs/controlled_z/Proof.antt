@@ -10,21 +10,13 @@ use Rattle.phase_sum_gates.proofs.controlled_z.Statement.{statement}
 use Rattle.phase_sum_gates.proofs.controlled_z.Tie as tie
 
 wire-requires : tie.Need-wire-requires
-wire-requires c κs =
-    let pre = c .before .before .before .before .before .pre in
-    (pre .within .0 .0, omega (arith, pre .within .0 .0, pre .flips))
+wire-requires c κs = search needs
 
 wire-requires-2 : tie.Need-wire-requires-2
-wire-requires-2 c κs =
-    let start = c .before .before .before .before .before .before in
-    let pre = start .pre in
-    (pre .within .0 .1, omega (arith, pre .within .0 .1, pre .flips))
+wire-requires-2 c κs = search needs
 
 put-product-requires : tie.Need-put-product-requires
-put-product-requires c κs =
-    let start = c .before .before .before .before .before .before .before .before .before in
-    let pre = start .pre in
-    unfold tally roomFor in (omega (arith, pre .sets), omega (arith, pre .coeffs))
+put-product-requires c κs = unfold tally roomFor in (omega arith, omega arith)
 
 same-length : tie.Need-same-length
 same-length c = search needs
@@ -39,11 +31,10 @@ returns c =
     let at-wire = at-wire2 .before in
     let start = at-wire .before .before .before .before .before .before in
     let a = start .args in
-    let pre = start .pre in
     let phase = at-put-product .put-product in
     controlled-z-leaves (a .run) (a .a) (a .b) (lent (a .ws) (a .fs) (a .sets) (a .coeffs)) (at-wire .wire .result)
     (at-wire2 .wire2 .result) (phase .result)
-    (pre .started)
+    (start .pre .started)
     (at-wire .wire .ensures)
     (at-wire2 .wire2 .ensures)
     (phase .ensures)

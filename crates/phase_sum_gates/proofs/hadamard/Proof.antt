@@ -13,33 +13,19 @@ use Rattle.phase_sum_gates.proofs.hadamard.Statement.{statement}
 use Rattle.phase_sum_gates.proofs.hadamard.Tie as tie
 
 single-requires : tie.Need-single-requires
-single-requires c κs =
-    let pre = c .before .before .before .before .before .pre in
-    unfold tally oneQubitKind in omega (arith, pre .variables)
+single-requires c κs = unfold tally oneQubitKind in omega arith
 
 wire-requires : tie.Need-wire-requires
-wire-requires c κs =
-    let start = c .before .before .before .before .before .before .before .before in
-    let pre = start .pre in
-    (pre .within .0, omega (arith, pre .within .0, pre .flips))
+wire-requires c κs = search needs
 
 put-product-requires : tie.Need-put-product-requires
-put-product-requires c κs =
-    let start = c .before .before .before .before .before .before .before .before .before .before .before in
-    let pre = start .pre in
-    unfold tally roomFor in (omega (arith, pre .sets), omega (arith, pre .coeffs))
+put-product-requires c κs = unfold tally roomFor in (omega arith, omega arith)
 
 set-wire-requires : tie.Need-set-wire-requires
-set-wire-requires c κs =
-    let start = c .before .before .before .before .before .before .before .before .before .before .before .before .before .before .before .before .before .before in
-    let pre = start .pre in
-    (pre .within .0, omega (arith, pre .within .0, pre .flips))
+set-wire-requires c κs = search needs
 
 add-t26 : tie.Need-add-t26
-add-t26 c =
-    let start = c .before .before .before .before .before .before .before .before .before .before .before .before .before .before .before .before .before .before .before .before .before .before .before in
-    let pre = start .pre in
-    unfold tally oneQubitKind in omega (arith, pre .variables)
+add-t26 c = search needs
 
 same-length : tie.Need-same-length
 same-length c = search needs
@@ -61,10 +47,9 @@ returns c =
     let at-single = at-wire .before .before .before in
     let start = at-single .before .before .before .before .before .before in
     let a = start .args in
-    let pre = start .pre in
     let phase = at-put-product .put-product in
     hadamard-leaves (a .run) (a .q) (lent (a .ws) (a .fs) (a .sets) (a .coeffs)) _ _ (at-wire .wire .result) _ (phase .result) _
-    (pre .started)
+    (start .pre .started)
     refl
     (at-wire .wire .ensures)
     (ap of (at-single .single .ensures))

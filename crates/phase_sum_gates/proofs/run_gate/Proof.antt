@@ -1,5 +1,6 @@
 -- `phase_sum_gates::run_gate` meets its contract.
 -- Assumes nothing.
+use Prim.Native.Nat.{_<_}
 use native.Mathlib.Omega.{arith}
 use lib.ListN.{length}
 use denote.Ref.{now}
@@ -9,11 +10,21 @@ use borrow.Author.Needs.{needs}
 use Rattle.phase_sum_gates.proofs.run_gate.Statement.{statement}
 use Rattle.phase_sum_gates.proofs.run_gate.Tie as tie
 
+-- the function's entry, from the first test
+abbrev entry : tie.After-slice-known4 → tie.Start
+entry c = c .before .before .before .before
+
+-- the kinds that the tests leave are those of the diagonal gates
+kinds : (c : tie.Else3) → let k = entry (c .before .before .before) .args .kind in (1 < k) × (k < 7)
+kinds c =
+    let e = entry (c .before .before .before) in
+    kind-diagonal (e .args .kind) (e .args .a) (e .args .b) (e .pre .0) (c .before .before .if1 .left) (c .before .if2 .left) (c .if3 .left)
+
 y-gate-requires : tie.Need-y-gate-requires
 y-gate-requires c κs =
-    let at-if1 = c .before .before .before .before in
-    let start = at-if1 .before .before .before .before .before in
-    let a = start .args in rw (kind-y (a .kind) (a .a) (a .b) (at-if1 .if1 .taken)) at (start .pre .1)
+    let then = c .before .before .before .before in
+    let is-y = then .if1 .taken in
+    rw kind-y at (entry (then .before) .pre .1)
 
 same-length : tie.Need-same-length
 same-length c = search needs
@@ -30,15 +41,14 @@ same-length-4 c = search needs
 returns : tie.Need-returns
 returns c =
     let at-y-gate = c .before .before .before .before .before .before in
-    let at-if1 = at-y-gate .before .before .before .before .before in
-    let start = at-if1 .before .before .before .before .before in
-    let a = start .args in rw (kind-y (a .kind) (a .a) (a .b) (at-if1 .if1 .taken)) (at-y-gate .y-gate .ensures)
+    let is-y = at-y-gate .before .before .before .before .before .if1 .taken in
+    rw kind-y (at-y-gate .y-gate .ensures)
 
 hadamard-requires : tie.Need-hadamard-requires
 hadamard-requires c κs =
-    let at-if2 = c .before .before .before .before in
-    let start = at-if2 .before .before .before .before .before .before in
-    let a = start .args in rw (kind-h (a .kind) (a .a) (a .b) (at-if2 .if2 .taken)) at (start .pre .1)
+    let then = c .before .before .before .before in
+    let is-h = then .if2 .taken in
+    rw kind-h at (entry (then .before .before) .pre .1)
 
 same-length-5 : tie.Need-same-length-5
 same-length-5 c = search needs
@@ -55,15 +65,14 @@ same-length-8 c = search needs
 returns-2 : tie.Need-returns-2
 returns-2 c =
     let at-hadamard = c .before .before .before .before .before .before .before .before in
-    let at-if2 = at-hadamard .before .before .before .before .before in
-    let start = at-if2 .before .before .before .before .before .before in
-    let a = start .args in rw (kind-h (a .kind) (a .a) (a .b) (at-if2 .if2 .taken)) (at-hadamard .hadamard .ensures)
+    let is-h = at-hadamard .before .before .before .before .before .if2 .taken in
+    rw kind-h (at-hadamard .hadamard .ensures)
 
 controlled-z-requires : tie.Need-controlled-z-requires
 controlled-z-requires c κs =
-    let at-if3 = c .before .before .before .before in
-    let start = at-if3 .before .before .before .before .before .before .before in
-    let a = start .args in rw (kind-cz (a .kind) (a .a) (a .b) (at-if3 .if3 .taken)) at (start .pre .1)
+    let then = c .before .before .before .before in
+    let is-cz = then .if3 .taken in
+    rw kind-cz at (entry (then .before .before .before) .pre .1)
 
 same-length-9 : tie.Need-same-length-9
 same-length-9 c = search needs
@@ -80,27 +89,20 @@ same-length-12 c = search needs
 returns-3 : tie.Need-returns-3
 returns-3 c =
     let at-controlled-z = c .before .before .before .before in
-    let at-if3 = at-controlled-z .before .before .before .before .before in
-    let start = at-if3 .before .before .before .before .before .before .before in
-    let a = start .args in rw (kind-cz (a .kind) (a .a) (a .b) (at-if3 .if3 .taken)) (at-controlled-z .controlled-z .ensures)
+    let is-cz = at-controlled-z .before .before .before .before .before .if3 .taken in
+    rw kind-cz (at-controlled-z .controlled-z .ensures)
 
 diagonal-of-requires : tie.Need-diagonal-of-requires
-diagonal-of-requires c κs =
-    let start = c .before .before .before .before .before .before .before in
-    let a = start .args in
-    kind-diagonal (a .kind) (a .a) (a .b) (start .pre .0) (c .before .before .if1 .left) (c .before .if2 .left) (c .if3 .left)
+diagonal-of-requires c κs = kinds c
 
 diagonal-requires : tie.Need-diagonal-requires
 unfolding tally
 diagonal-requires c κs =
-    let at-if3 = c .before .before .before .before .before in
-    let at-if2 = at-if3 .before in
-    let at-if1 = at-if2 .before in
-    let start = at-if1 .before .before .before .before .before in
-    let a = start .args in
-    let fits = start .pre .1 in
-    let found = kind-diagonal (a .kind) (a .a) (a .b) (start .pre .0) (at-if1 .if1 .left) (at-if2 .if2 .left) (at-if3 .if3 .left) in
-    let room = diagonal-room (a .kind) (a .a) (a .b) (found .0) (found .1) in
+    let else = c .before .before .before .before .before in
+    let e = entry (else .before .before .before) in
+    let a = e .args in
+    let fits = e .pre .1 in
+    let room = diagonal-room (a .kind) (a .a) (a .b) (kinds else .0) (kinds else .1) in
     let within = bytes-within (length (now (a .ws))) (a .kind) (a .a) (a .b) (fits .within .0) in
     (within .0, fits .flips, fits .started, omega (arith, room, fits .sets), omega (arith, room, fits .coeffs))
 
@@ -120,8 +122,7 @@ returns-4 : tie.Need-returns-4
 returns-4 c =
     let at-diagonal = c .before .before .before .before in
     let at-diagonal-of = at-diagonal .before .before .before .before .before in
-    let start = at-diagonal-of .before .before .before .before .before .before .before .before in
-    let a = start .args in
+    let a = entry (at-diagonal-of .before .before .before .before) .args in
     rw (at-diagonal-of .diagonal-of .ensures (length (now (a .ws))) (a .a) (a .b) _) (at-diagonal .diagonal .ensures)
 
 pub run-gate-spec : {M : Type 1} → statement M

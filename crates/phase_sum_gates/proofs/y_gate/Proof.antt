@@ -10,22 +10,13 @@ use Rattle.phase_sum_gates.proofs.y_gate.Statement.{statement}
 use Rattle.phase_sum_gates.proofs.y_gate.Tie as tie
 
 wire-requires : tie.Need-wire-requires
-wire-requires c κs =
-    let start = c .before .before .before .before .before .before in
-    let pre = start .pre in
-    (pre .within .0, omega (arith, pre .within .0, pre .flips))
+wire-requires c κs = search needs
 
 put-phase-requires : tie.Need-put-phase-requires
-put-phase-requires c κs =
-    let start = c .before .before .before .before .before .before .before .before .before in
-    let pre = start .pre in
-    unfold tally roomFor in (omega (arith, pre .sets), omega (arith, pre .coeffs))
+put-phase-requires c κs = unfold tally roomFor in (omega arith, omega arith)
 
 flip-wire-requires : tie.Need-flip-wire-requires
-flip-wire-requires c κs =
-    let start = c .before .before .before .before .before .before .before .before .before .before .before .before .before .before .before in
-    let pre = start .pre in
-    (pre .within .0, omega (arith, pre .within .0, pre .flips))
+flip-wire-requires c κs = search needs
 
 add-requires : tie.Need-add-requires
 add-requires c κs = search needs
@@ -46,11 +37,10 @@ returns c =
     let at-wire = at-put-phase .before .before .before in
     let start = at-wire .before .before .before .before .before .before .before in
     let a = start .args in
-    let pre = start .pre in
     let phase = at-put-phase .put-phase in
     y-leaves (a .run) (a .q) (lent (a .ws) (a .fs) (a .sets) (a .coeffs)) _ (at-wire .wire .result) (phase .result)
     (c .add .result)
-    (pre .started)
+    (start .pre .started)
     (at-wire .wire .ensures)
     (phase .ensures)
     (x-moved (a .q) _ _ (at-flip-wire .flip-wire .ensures))

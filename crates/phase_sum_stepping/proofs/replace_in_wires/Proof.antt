@@ -1,5 +1,6 @@
 -- `phase_sum_stepping::replace_in_wires` meets its contract. The loop's invariant: z is replaced in the first q wires, and the others are as they were. The measure is how many wires are left.
 -- Assumes nothing.
+use borrow.Author.Needs.{needs}
 use mathlib.Core.Path.{_≡_, sym, refl, _∙_}
 use mathlib.Core.List.{map}
 use Prim.Native.Nat.{_-_, _≤_}
@@ -31,32 +32,19 @@ loop-holds c =
     (omega arith, refl, same, same, length-wires (now (a .ws)) (now (a .fs)) same, front-none _)
 
 wire-requires : tie.Need-wire-requires Inv-loop μ-loop
-wire-requires c κs =
-    let inv = c .before .before .before .loop .inv in
-    (c .before .before .loop-test .taken, omega (arith, c .before .before .loop-test .taken, inv .1, inv .2))
+wire-requires c κs = search needs
 
 replace-in-requires : tie.Need-replace-in-requires Inv-loop μ-loop
-replace-in-requires c κs =
-    let start = c .before .before .before .before .before .before .before in
-    start .pre .0
+replace-in-requires c κs = search needs
 
 set-wire-requires : tie.Need-set-wire-requires Inv-loop μ-loop
-set-wire-requires c κs =
-    let in-loop = c .before .before .before .before .before .before in
-    let at-loop = in-loop .before in
-    let inv = at-loop .loop .inv in
-    (in-loop .loop-test .taken, omega (arith, in-loop .loop-test .taken, inv .1, inv .2))
+set-wire-requires c κs = search needs
 
 add-q : tie.Need-add-q Inv-loop μ-loop
-add-q c =
-    let in-loop = c .before .before .before .before .before .before .before .before .before .before .before in
-    omega (arith, in-loop .loop-test .taken)
+add-q c = search needs
 
 loop-less : tie.Need-loop-less Inv-loop μ-loop
-loop-less c =
-    let in-loop = c .before .before .before .before .before .before .before .before .before .before .before in
-    let at-loop = in-loop .before in
-    omega (arith, in-loop .loop-test .taken, at-loop .loop .inv .1)
+loop-less c = search needs
 
 loop-again : tie.Need-loop-again Inv-loop μ-loop
 loop-again c =
