@@ -1,20 +1,66 @@
 -- `comparison_reducing::reducing::step` meets its contract: where the search finds a variable of L, the step is at it; where not, it is blocked, or none is asked for.
 -- Assumes nothing.
-use mathlib.Core.Path.{refl, sym, ap, _∙_}
+use mathlib.Core.Path.{_≡_, refl, sym, ap, _∙_}
 use mathlib.Core.Bool.{true, false, true≢false}
+use Rattle.phase_sum_meaning.specs.Sets.{firstIn}
+use Rattle.phase_sum_meaning.specs.Building.{PathSum}
+use Rattle.phase_sum_meaning.specs.Stepping.{takeOut}
 use Rattle.phase_sum_terms.specs.Workspace.{setOf, lent, sumOf, foundOf}
 use Rattle.phase_sum_terms.proofs.Changing.{sized-stands}
-use Rattle.comparison_types.specs.Inner.{countsOf}
+use Rattle.comparison_meaning.specs.Reduction.{stepWith, stepAt}
+use Rattle.comparison_types.specs.Inner.{countsOf, stepTo, StepsTo, StepsAt}
 use Rattle.comparison_types.proofs.PinLaws.{found-below}
 use Rattle.comparison_types.proofs.StepCases.{found-left, step-chosen, step-unchosen, step-stuck}
 use borrow.Author.Needs.{needs}
 use Rattle.comparison_reducing.proofs.reducing.step.Statement.{statement}
 use Rattle.comparison_reducing.proofs.reducing.step.Tie as tie
 
+-- from before the call of `halves_of` to the function's entry
+abbrev to-start : tie.After-halves-of-arg2 → tie.Start
+to-start c = c .before .before .before .before .before .before .before
+
+-- from behind the search for a variable to behind the call of `halves_of`
+abbrev to-halves : tie.After-lowest-in → tie.After-halves-of
+to-halves c = c .before .before .before
+
+-- and to the function's entry
+abbrev start : tie.After-lowest-in → tie.Start
+start c = to-start (to-halves c .before)
+
+-- from before the step at the variable found to where it was found
+abbrev to-found : tie.After-step-at-arg4 → tie.After-z
+to-found c = c .before .before .before .before .before
+
+-- from before the step where none was found to the test of `constrains`
+abbrev to-free : tie.After-step-at-arg8 → tie.Else1
+to-free c = c .before .before .before .before
+
+-- from that test to the search
+abbrev to-search : tie.After-constrains → tie.After-lowest-in
+to-search c = c .before .before .before
+
+-- the sum that the step is to change
+abbrev sum-start : tie.After-lowest-in → PathSum
+sum-start c = let a = start c .args in sumOf (a .sum) (lent (a .ws) (a .fs) (a .sets) (a .coeffs))
+
+-- the variable found is the definition's
+found-is : (c : tie.After-lowest-in) →
+    firstIn (takeOut (start c .args .y) (sum-start c) .live) (setOf (to-halves c .halves-of .result .l)) ≡ foundOf (c .lowest-in .result)
+found-is c = found-left (sum-start c) _ _ _ _ (c .lowest-in .result) refl (c .before .without .ensures) (c .lowest-in .ensures)
+
+-- C and L are the definition's
+halves-are : (c : tie.After-lowest-in) →
+    let a = start c .args in let halves = to-halves c .halves-of .result in
+    stepWith (a .y) (halves .c) (setOf (halves .l)) (sum-start c) (countsOf (a .counts)) ≡ stepAt (a .y) (sum-start c) (countsOf (a .counts))
+halves-are c = let is = to-halves c .halves-of .ensures in rw (← is .0, ← is .1)
+
+-- a step at z that is the definition's at y meets the contract
+steps-at : {y z k u s n e l l′ : _} →
+    StepsTo y z k u s n e l l′ → stepTo y z k u (sumOf s l) (countsOf n) ≡ stepAt y (sumOf s l) (countsOf n) → StepsAt y s n e l l′
+steps-at to is = record { next = rw (to .free) (to .next ∙ is); stays = λ b. absurd (true≢false (sym b ∙ to .free)); sized = to .sized }
+
 halves-of-requires : tie.Need-halves-of-requires
-halves-of-requires c κs =
-    let start = c .before .before .before .before .before .before .before in
-    let stands = sized-stands (start .pre .3) in (start .pre .1, stands .sets, stands .coeffs)
+halves-of-requires c κs = let stands = sized-stands (to-start c .pre .3) in (to-start c .pre .1, stands .sets, stands .coeffs)
 
 without-requires : tie.Need-without-requires
 without-requires c κs = search needs
@@ -27,11 +73,10 @@ enum-known-z c = search needs
 
 step-at-requires : tie.Need-step-at-requires
 step-at-requires c κs =
-    let at-z = c .before .before .before .before .before in
-    let at-lowest-in = at-z .before .before in
-    let start = at-lowest-in .before .before .before .before .before .before .before .before .before .before .before in
-    let pre = start .pre in
-    (pre .0, pre .1, found-below _ _ _ (sym (at-lowest-in .lowest-in .ensures) ∙ ap foundOf (at-z .z .given .1)), pre .2, pre .3)
+    let found = to-found c in
+    let at-search = found .before .before in
+    let pre = start at-search .pre in
+    (pre .0, pre .1, found-below _ _ _ (sym (at-search .lowest-in .ensures) ∙ ap foundOf (found .z .given .1)), pre .2, pre .3)
 
 enum-told : tie.Need-enum-told
 enum-told c = search needs
@@ -50,29 +95,15 @@ same-length-2 c = search needs
 
 returns : tie.Need-returns
 returns c =
-    let at-enum-told = c .before .before .before in
-    let at-lowest-in = at-enum-told .before .before in
-    let at-without = at-lowest-in .before in
-    let at-halves-of = at-without .before .before in
-    let start = at-halves-of .before .before .before .before .before .before .before .before in
-    let a = start .args in
-    let halves = at-halves-of .halves-of in
-    let s = sumOf (a .sum) (lent (a .ws) (a .fs) (a .sets) (a .coeffs)) in
-    let found = found-left s (setOf (a .sum .live)) (a .y) (setOf (halves .result .l)) _ (at-lowest-in .lowest-in .result) refl
-    (at-without .without .ensures) (at-lowest-in .lowest-in .ensures) in
-    let none-left = found ∙ ap foundOf (at-enum-told .enum-told .given .1) in
-    let kind = c .before .before .constrains .ensures .0 (c .before .if1 .taken) in
-    let stuck = step-stuck (a .y) (halves .result .c) (setOf (halves .result .l)) s (countsOf (a .counts)) kind none-left in
-    record {
-      next = rw (c .constraint-of .ensures, ← halves .ensures .0, ← halves .ensures .1) (sym stuck);
-      stays = λ b. (refl, refl, refl);
-      sized = start .pre .3;
-    }
+    let at-constrains = c .before .before in
+    let at-search = to-search at-constrains in
+    let none-left = found-is at-search ∙ ap foundOf (at-constrains .before .enum-told .given .1) in
+    let stuck = step-stuck _ _ _ _ _ (at-constrains .constrains .ensures .0 (c .before .if1 .taken)) none-left in
+    let is = sym stuck ∙ halves-are at-search in
+    record { next = rw (c .constraint-of .ensures) is; stays = λ b. (refl, refl, refl); sized = start at-search .pre .3 }
 
 step-at-requires-2 : tie.Need-step-at-requires-2
-step-at-requires-2 c κs =
-    let start = c .before .before .before .before .before .before .before .before .before .before .before .before .before .before .before .before .before .before .before in
-    let pre = start .pre in (pre .0, pre .1, pre .1, pre .2, pre .3)
+step-at-requires-2 c κs = let pre = start (to-search (to-free c .before)) .pre in (pre .0, pre .1, pre .1, pre .2, pre .3)
 
 same-length-3 : tie.Need-same-length-3
 same-length-3 c = search needs
@@ -89,26 +120,10 @@ same-length-6 c = search needs
 returns-2 : tie.Need-returns-2
 returns-2 c =
     let at-step-at = c .before .before .before .before .before .before .before .before in
-    let at-z = at-step-at .before .before .before .before .before .before in
-    let at-lowest-in = at-z .before .before in
-    let at-without = at-lowest-in .before in
-    let at-halves-of = at-without .before .before in
-    let start = at-halves-of .before .before .before .before .before .before .before .before in
-    let a = start .args in
-    let halves = at-halves-of .halves-of in
-    let s = sumOf (a .sum) (lent (a .ws) (a .fs) (a .sets) (a .coeffs)) in
-    let found = found-left s (setOf (a .sum .live)) (a .y) (setOf (halves .result .l)) _ (at-lowest-in .lowest-in .result) refl
-    (at-without .without .ensures) (at-lowest-in .lowest-in .ensures) in
-    let chosen =
-    step-chosen (a .y) (halves .result .c) (setOf (halves .result .l)) s (countsOf (a .counts)) _
-    (found ∙ ap foundOf (at-z .z .given .1))
-    in
-    let to = at-step-at .step-at .ensures in
-    record {
-      next = rw (to .free, ← halves .ensures .0, ← halves .ensures .1) (to .next ∙ chosen);
-      stays = λ b. absurd (true≢false (sym b ∙ to .free));
-      sized = to .sized;
-    }
+    let found = to-found (at-step-at .before) in
+    let at-search = found .before .before in
+    let chosen = step-chosen _ _ _ _ _ _ (found-is at-search ∙ ap foundOf (found .z .given .1)) in
+    steps-at (at-step-at .step-at .ensures) (chosen ∙ halves-are at-search)
 
 same-length-7 : tie.Need-same-length-7
 same-length-7 c = search needs
@@ -124,22 +139,10 @@ same-length-10 c = search needs
 
 returns-3 : tie.Need-returns-3
 returns-3 c =
-    let at-step-at2 = c .before .before .before .before .before .before .before .before in
-    let at-if1 = at-step-at2 .before .before .before .before .before in
-    let at-constrains = at-if1 .before in
-    let at-halves-of = at-constrains .before .before .before .before .before .before in
-    let start = at-halves-of .before .before .before .before .before .before .before .before in
-    let a = start .args in
-    let halves = at-halves-of .halves-of in
-    let s = sumOf (a .sum) (lent (a .ws) (a .fs) (a .sets) (a .coeffs)) in
-    let other = at-constrains .constrains .ensures .1 (at-if1 .if1 .left) in
-    let any = step-unchosen (a .y) (halves .result .c) (setOf (halves .result .l)) s (countsOf (a .counts)) (a .y) other in
-    let to = at-step-at2 .step-at2 .ensures in
-    record {
-      next = rw (to .free, ← halves .ensures .0, ← halves .ensures .1) (to .next ∙ any);
-      stays = λ b. absurd (true≢false (sym b ∙ to .free));
-      sized = to .sized;
-    }
+    let at-step-at = c .before .before .before .before .before .before .before .before in
+    let free = to-free (at-step-at .before) in
+    let any = step-unchosen _ _ _ _ _ _ (free .before .constrains .ensures .1 (free .if1 .left)) in
+    steps-at (at-step-at .step-at2 .ensures) (any ∙ halves-are (to-search (free .before)))
 
 pub step-spec : {M : Type 1} → statement M
 step-spec =

@@ -3,17 +3,27 @@
 use mathlib.Core.Path.{_≡_, sym, _∙_}
 use mathlib.Core.Bool.{false}
 use Prim.Native.Nat.{ℕ, _+_, _≤_}
-use lib.ListN.{replicate}
+use lib.ListN.{length, take, replicate}
 use lib.Seq.{length-take-le}
-use denote.Ref.{now}
 use borrow.Author.Tests.{not-false}
-use Rattle.record_format.specs.Reading.{accepted, read}
 use Rattle.amplitude.specs.Circuit.{hGates}
 use Rattle.phase_sum_meaning.specs.Room.{mostVariables}
 use Rattle.phase_sum_terms.proofs.Acceptance.{gates-of-part, buildable}
 use borrow.Author.Needs.{needs}
 use Rattle.phase_sum_vectors.proofs.pair.sum_of.Statement.{statement}
 use Rattle.phase_sum_vectors.proofs.pair.sum_of.Tie as tie
+
+-- from where the qubits are few enough to the function's entry
+abbrev to-start : tie.Else1 → tie.Start
+to-start c = c .before .before .before .before .before
+
+-- from where all tests have passed to where the qubits are few enough
+abbrev to-qubits : tie.Else4 → tie.Else1
+to-qubits c = c .before .before .before .before .before .before
+
+-- the first n of sixteen places
+n-long : {A : Type 0} (a : A) (c : tie.Else1) → length (take (to-start c .args .n) (replicate 16 a)) ≡ to-start c .args .n
+n-long a c = length-take-le (to-start c .args .n) (replicate 16 a) (c .if1 .left)
 
 returns : tie.Need-returns
 returns c = search needs
@@ -40,33 +50,30 @@ array-borrow-prefix-ws : tie.Need-array-borrow-prefix-ws
 array-borrow-prefix-ws c = search needs
 
 slice-aggregate-build : tie.Need-slice-aggregate-build
-slice-aggregate-build c = sym (length-take-le (c .before .before .before .before .before .before .before .before .before .before .before .before .args .n) (replicate 16 0) (c .before .before .before .before .before .before .before .if1 .left))
+slice-aggregate-build c = sym (n-long 0 (to-qubits (c .before)))
 
 array-borrow-prefix-fs : tie.Need-array-borrow-prefix-fs
 array-borrow-prefix-fs c = search needs
 
 slice-aggregate-build-2 : tie.Need-slice-aggregate-build-2
-slice-aggregate-build-2 c = sym (length-take-le (c .before .before .before .before .before .before .before .before .before .before .before .before .before .args .n) (replicate 16 false) (c .before .before .before .before .before .before .before .before .if1 .left))
+slice-aggregate-build-2 c = sym (n-long false (to-qubits (c .before .before)))
 
 build-requires : tie.Need-build-requires
 build-requires c κs =
-    let n = c .before .before .before .before .before .before .before .before .before .before .before .before .before .before .before .args .n in
-    let s = now (c .before .before .before .before .before .before .before .before .before .before .before .before .before .before .before .args .first) in
-    let t = now (c .before .before .before .before .before .before .before .before .before .before .before .before .before .before .before .args .second) in
-    let gs = c .before .before .before .before .before .before .before .before .before .before .before .before .before .before .before .pre .0 .0 in
-    let hs = c .before .before .before .before .before .before .before .before .before .before .before .before .before .before .before .pre .1 .0 in
-    let e : read s ≡ accepted n gs = c .before .before .before .before .before .before .before .before .before .before .before .before .before .before .before .pre .0 .1 in
-    let f : read t ≡ accepted n hs = c .before .before .before .before .before .before .before .before .before .before .before .before .before .before .before .pre .1 .1 in
-    let part = c .before .before .before .before .before .before .before .gates .ensures .0 in
-    let part′ = c .before .before .before .before .before .before .gates2 .ensures .0 in
-    let told = c .before .before .before .before .before .few-variables .ensures (not-false _ (c .before .before .before .before .if4 .left)) in
-    let few : n + (hGates gs + hGates hs) ≤ mostVariables =
-    rw (part, part′, gates-of-part s n gs e, gates-of-part t n hs f) at told
+    let passed = c .before .before .before .before in
+    let at-gates = passed .before .before .before in
+    let first = at-gates .gates .ensures .0 in
+    let second = passed .before .before .gates2 .ensures .0 in
+    let at-qubits = at-gates .before .before .before in
+    let start = to-start at-qubits in
+    let pre = start .pre in
+    let told = passed .before .few-variables .ensures (not-false _ (passed .if4 .left)) in
+    let few : start .args .n + (hGates (pre .0 .0) + hGates (pre .1 .0)) ≤ mostVariables =
+    rw (first, second, gates-of-part _ _ _ (pre .0 .1), gates-of-part _ _ _ (pre .1 .1)) at told
     in
-    let e₁ = length-take-le {A = ℕ} n (replicate 16 0) (c .before .before .before .before .before .before .before .before .before .before .if1 .left) in
-    let f₁ = length-take-le n (replicate 16 false) (c .before .before .before .before .before .before .before .before .before .before .if1 .left) in
-    let fits = buildable s t n gs hs (now (c .before .before .before .before .before .before .before .before .before .before .before .before .before .before .before .args .sets)) (now (c .before .before .before .before .before .before .before .before .before .before .before .before .before .before .before .args .coeffs)) e f few (c .before .before .before .before .before .before .before .before .before .if2 .left) (c .before .before .before .before .before .before .before .before .if3 .left) in
-    (f₁ ∙ sym e₁, rw e₁ (rw (part, part′) fits))
+    let fits = buildable _ _ _ _ _ _ _ (pre .0 .1) (pre .1 .1) few (at-gates .before .before .if2 .left) (at-gates .before .if3 .left) in
+    let long = n-long {A = ℕ} 0 at-qubits in
+    (n-long false at-qubits ∙ sym long, rw long (rw (first, second) fits))
 
 show-requires : tie.Need-show-requires
 show-requires c κs = search needs
