@@ -44,6 +44,8 @@ def expected(number, row, answer):
 
 
 def main():
+    if sys.argv[1:] not in ([], ["--check"]):
+        sys.exit("usage: make_rows.py [--check]")
     rows, lines = [], []
     for number, row, answer in read_rows(os.path.join(HERE, "rows.txt")):
         rows.append(row)
