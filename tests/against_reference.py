@@ -5,8 +5,8 @@ call with rows of text, and the program compare, which reads two records.
     rt check record_calls pair_calls compare && python3 tests/against_reference.py [TIMES]
 
 Fixed cases at the limits come first, then random families (random_pairs.py) that reach every rule; TIMES multiplies the random cases. Up to
-5 qubits, equal and different are also held to exact dense columns. Every class of cases is counted. The run fails where a line differs or
-a class never came up.
+5 qubits, equal and different are also held to exact dense columns. Every class of cases is counted. The run fails where a line differs, a
+class never came up, or one came up that classes.py does not list.
 """
 import os
 import random
@@ -24,6 +24,7 @@ from classes import CLASSES, kind_class
 ROOT = os.path.join(os.path.dirname(os.path.abspath(__file__)), "..")
 SEED = 20261115
 
+
 def fail(words):
     sys.exit(f"against_reference: {words}")
 
@@ -35,6 +36,7 @@ class Check:
         self.seen = Counter()
         self.rows = []
         self.lines = []
+        self.rows_run = 0
 
     def see(self, *names):
         self.seen.update(names)
@@ -65,7 +67,9 @@ class Check:
     def run_rows(self):
         """All rows, each program's through one process."""
         for name in call_rows.PROGRAMS:
-            self.run_through(name, [pair for pair in zip(self.rows, self.lines) if call_rows.program_of(pair[0]) == name])
+            pairs = [pair for pair in zip(self.rows, self.lines) if call_rows.program_of(pair[0]) == name]
+            if pairs:
+                self.run_through(name, pairs)
 
     def run_through(self, name, pairs):
         """These rows, with the lines that they must give, through a program."""
@@ -82,6 +86,7 @@ class Check:
                 fail(f"row\n{text}\nprinted\n{got}\nwanted\n{want}")
         if lines[len(pairs) :] != [f"rows {len(pairs)}"]:
             fail(f"{name} printed {len(lines)} lines for {len(pairs)} rows")
+        self.rows_run += len(pairs)
         self.see(f"rows of {name}")
 
     def run_program(self, data, want=None):
@@ -200,7 +205,8 @@ def check_columns(check, n, first, second, fields):
         a, b = int(fields[1]), int(fields[2])
         if a >> n or b >> n or columns.fitting(a) & columns.fitting(b):
             fail(f"different at {a} and {b}, but a power fits both columns: {list_text(n, first)} and {list_text(n, second)}")
-    check.see(f"compare: dense columns: {fields[0]}")
+    if fields[0] != "undecided":
+        check.see(f"compare: dense columns: {fields[0]}")
 
 
 def is_small(n, first, second):
@@ -223,7 +229,9 @@ def lent(rng, n, gates):
 
 def random_pair_row(check, rng, call, families=pairs.FAMILIES):
     """A pair of a random family; now and then one of the two is damaged, or on other qubits, or the first is given twice."""
-    n, first, second = rng.choice(families)(rng)
+    family = rng.choice(families)
+    check.see(f"{call}: family {family.__name__}")
+    n, first, second = family(rng)
     a, b = lent(rng, n, first), lent(rng, n, second)
     luck = rng.random()
     if luck < 0.12:
@@ -382,6 +390,20 @@ def damaged_input(rng, data):
     return pairs.damaged(rng, data[:first]) + data[first:]
 
 
+def show_classes(check):
+    """The counts. Every class came up, every one that came up is listed, and every row was run."""
+    for name in CLASSES:
+        print(f"{check.seen[name]:7} {name}")
+    missing = [name for name in CLASSES if not check.seen[name]]
+    if missing:
+        fail(f"never came up: {', '.join(missing)}")
+    unlisted = sorted(name for name in check.seen if name not in CLASSES)
+    if unlisted:
+        fail(f"came up, but classes.py does not list it: {', '.join(unlisted)}")
+    if check.rows_run != len(check.rows):
+        fail(f"{check.rows_run} of {len(check.rows)} rows were run")
+
+
 def main():
     times = int(sys.argv[1]) if len(sys.argv) > 1 else 1
     rng = random.Random(SEED)
@@ -403,11 +425,7 @@ def main():
         n, first, second = rng.choice(pairs.FAMILIES)(rng)
         data = ref.record(n, first) + ref.record(n, second)
         check.run_program(damaged_input(rng, data) if i % 3 == 0 else data)
-    for name in CLASSES:
-        print(f"{check.seen[name]:7} {name}")
-    missing = [name for name in CLASSES if not check.seen[name]]
-    if missing:
-        fail(f"never came up: {', '.join(missing)}")
+    show_classes(check)
     print(f"{len(check.rows)} rows and {inputs} random inputs: all agree with the independent implementation")
 
 

@@ -38,6 +38,8 @@ SHAPES = (
     "dense columns: equal",
     "dense columns: different",
 )
+# random_pairs.py's, by name: one that is no longer drawn from is missed
+FAMILIES = ("mixed", "diagonal", "wide", "many_h", "long", "blocked", "few_gates", "equal")
 PICKS = (
     "first, fewer T gates",
     "second, fewer T gates",
@@ -86,6 +88,8 @@ CLASSES = (
     *(f"{call}: {verdict}" for call in ("compare", "program") for verdict in ref.VERDICTS),
     *(f"compare: {event}" for event in EVENTS),
     *(f"compare: {shape}" for shape in SHAPES),
+    *(f"{call}: family {name}" for call in ("compare", "pick") for name in FAMILIES),
+    "pick: family worth",
     *(f"pick: {choice}" for choice in PICKS),
     *(kind_class(kind) for kind in range(11)),
     *ANSWERS,

@@ -26,6 +26,8 @@ SCRIPT = os.path.join(ROOT, "compare")
 GATES = os.path.join(ROOT, "examples", "gates")
 NOBODY = 65534
 SECONDS = 120
+UMASK = os.umask(0o022)
+os.umask(UMASK)
 HELD = {"checks": 0, "failed": 0}
 
 
@@ -107,6 +109,19 @@ BAD = {
     6: b"\x51\x43\x01\x01\x00\x07\x01\xff",
     7: b"\x51\x43\x01\x01\x00\x07\x00\x00",
 }
+# files with several faults: the first row of document 01's table that holds decides
+ORDER = (
+    ("4 bytes, another mark", b"QVQV", 1),
+    ("another mark, no qubits, 513 gates", b"QV\x00\x01\x02", 2),
+    ("no qubits, 513 gates", b"QC\x00\x01\x02", 3),
+    ("513 gates, no body", b"QC\x01\x01\x02", 4),
+    ("cut behind a gate that is none", b"QC\x01\x02\x00\x0b\x00\xff", 1),
+    ("kind 11 on no qubit", b"QC\x01\x01\x00\x0b\x09\x09", 5),
+    ("H on qubits 9 and 0", b"QC\x01\x01\x00\x07\x09\x00", 7),
+    ("CX with 255", b"QC\x02\x01\x00\x08\x00\xff", 6),
+    ("CX from 0 to 0", b"QC\x02\x01\x00\x08\x00\x00", 6),
+    ("a second gate that is none", b"QC\x01\x02\x00\x07\x01\xff\x0b\x00\xff", 6),
+)
 WORDS = {"equal": 0, "different": 1, "undecided": 2, "refused": 3}
 
 
@@ -131,6 +146,8 @@ def border_cases():
         yield f"second refused by {number}", EXAMPLE, bad, f"refused {number}"
         yield f"first refused by {number}, second by another", bad, BAD[number % 7 + 1], f"refused {number}"
         yield f"bytes behind the first, second refused by {number}", EXAMPLE + b"\0", bad, f"refused {number}"
+    for label, bad, number in ORDER:
+        yield label, bad, NOTHING, f"refused {number}"
     yield "bytes behind the first", EXAMPLE + b"\0", NOTHING, "refused 12"
     yield "bytes behind the second", EXAMPLE, NOTHING + b"\0", "refused 12"
     yield "bytes behind both", EXAMPLE + b"Q", NOTHING + b"C", "refused 12"
@@ -240,6 +257,8 @@ def program_failures(room):
         ("name of 4,095 bytes", ["a" * 4095, good], "name too long"),
         ("name of 4,096 bytes", ["a" * 4096, good], "name too long"),
         ("name of 5,000 bytes", [good, "a" * 5000], "name too long"),
+        ("a read that fails, first", ["/proc/self/mem", good], "/proc/self/mem: Input/output error"),
+        ("a read that fails, second", [good, "/proc/self/mem"], "/proc/self/mem: Input/output error"),
     ):
         refuses_to_read(f"program, {label}", [PROGRAM, *words], message)
     for words in ([good], [good, good, good]):
@@ -307,6 +326,11 @@ def script_names(room):
     link = os.path.join(room.path, "link to compare")
     os.symlink(SCRIPT, link)
     check("script, by a link", run([link, "a  b", "./-h"], cwd=spaced), want)
+    other.file(EXAMPLE, "a\nb\n")
+    check("script, a name with line ends", run([SCRIPT, "a\nb\n", "./-h"], cwd=spaced), want)
+    check("script, /dev/stdin as a name", run([SCRIPT, "/dev/stdin", "./-h"], cwd=spaced, input=EXAMPLE), want)
+    check("script, names around --", run([SCRIPT, "a  b", "--", "-h"], cwd=spaced), want)
+    check("script, a path of 4,095 bytes", run([SCRIPT, "/" * (4095 - len(spaced) - 5) + spaced + "/a  b", "./-h"], cwd=spaced), want)
     words = f"'{SCRIPT}' <(cat 'a  b') <(cat ./-h)"
     check("script, pipes as files", run(["bash", "-c", words], cwd=spaced), want)
 
@@ -328,12 +352,14 @@ def script_usage(room):
     os.close(slave)
     os.close(master)
     check("script, no names at a terminal", (status, out, "usage:" in err), (64, b"", True))
+    check("script, run by another shell", run(["sh", SCRIPT, good, good])[0] in (0, 70), True)
 
 
 def script_failures(room):
     """Exit status 74: inputs that cannot be read and lines that cannot be written."""
     good, gone = room.file(NOTHING), os.path.join(room.path, "gone")
-    for label, words in (("missing", [gone, good]), ("directory", [good, room.path]), ("empty name", ["", good])):
+    failing = ("a read that fails", ["/proc/self/mem", good])
+    for label, words in (("missing", [gone, good]), ("directory", [good, room.path]), ("empty name", ["", good]), failing):
         status, out, err = run([SCRIPT, *words])
         check(f"script, {label}", (status, out, err[:9]), (74, b"", "compare: "))
     status, out, err = run([SCRIPT, "a" * 4096, good])
@@ -354,6 +380,17 @@ def script_failures(room):
         os.close(writer)
 
 
+def unread_messages(room):
+    """Nobody reads standard error: the status stays what it is."""
+    good, gone = room.file(NOTHING), os.path.join(room.path, "gone")
+    for words, status in (([gone, good], 74), (["/proc/self/mem", good], 74), ([good], 64), (["--x"], 64), ([good, good], 0)):
+        reader, writer = os.pipe()
+        os.close(reader)
+        got = subprocess.run([SCRIPT, *words], stdin=subprocess.DEVNULL, stdout=subprocess.PIPE, stderr=writer, timeout=SECONDS)
+        os.close(writer)
+        check(f"script, nobody reads the message, {words}", got.returncode, status)
+
+
 def closed_descriptors(room):
     """Standard input, output and error closed, in every mixture: never a hang, never a line that is no answer."""
     good, gone = room.file(NOTHING), os.path.join(room.path, "gone")
@@ -363,6 +400,7 @@ def closed_descriptors(room):
         check(f"script, {closed}, missing file", run([*words, gone, good])[:2], (74, b""))
         check(f"script, {closed}, one name", run([*words, good])[:2], (64, b""))
         want = (74, b"") if "<" in closed else (3, b"refused 1\n")
+        check(f"script, {closed}, /dev/stdin as a name", run([*words, "/dev/stdin", good])[:2], want)
         check(f"script, {closed}, no names", run(words)[:2], want)
     for closed in (">&-", "<&- >&-", ">&- 2>&-", "<&- >&- 2>&-"):
         words = ["sh", "-c", f'exec "$@" {closed}', "sh", SCRIPT]
@@ -396,12 +434,12 @@ FAKE = """#!/bin/sh
 here=$(dirname "$0")
 if [ "$1" = version ]; then cat "$here/version"; exit 0; fi
 cat >/dev/null
-echo run >>"$here/runs"
+echo "$*" >>"$here/runs"
 echo 'rt: first_crate proved (1 s)'
 echo 'a line that nobody needs'
 echo 'rt: second_crate proved (unchanged since it was last proved)'
 sleep "$(cat "$here/seconds")"
-if [ -e "$here/fail" ]; then echo 'rt: third_crate NOT PROVED (exit 1, 1 s)'; exit 1; fi
+if [ -e "$here/fail" ]; then echo 'rt: third_crate NOT PROVED (exit 1, 1 s)'; echo 'why it failed'; exit 1; fi
 mkdir -p target/bin
 cp "$here/program" target/bin/compare
 echo 'rt: ok, 2 crates proved'
@@ -456,19 +494,20 @@ class Copy:
 def built_when_needed(copy):
     """The prover runs where the program is not that of these sources, and only then."""
     status, out, err = run(copy.words(), env=copy.env(tool=False))
-    check("build, no rt and nothing built", (status, out, "rt" in err, err[:9]), (70, b"", True, "compare: "))
+    check("build, no rt and nothing built", (status, out, err.count("\n")), (70, b"", 1))
+    holds("build, no rt and nothing built, message", re.match("compare: .* rt, .* is not found", err), err)
     err = copy.compare("the first time", 1)
-    holds("build, progress", "compare: first_crate proved (1 s)\n" in err, err)
+    holds("build, progress", "some minutes\ncompare: first_crate proved (1 s)\n" in err, err)
     holds("build, no noise", "nobody needs" not in err and "unchanged" not in err, err)
     check("build, silent the second time", copy.compare("the second time", 1), "")
     check("build, no rt but built", copy.compare("no rt but built", 1, tool=False), "")
     copy.put("crates/a/lib.rt", "// b\n")
     copy.compare("a changed file", 2)
-    copy.put("crates/a/new.antt", "")
+    copy.put("crates/a/new", "")
     copy.compare("a new file", 3)
     copy.put("crates.txt", "a: io\n")
     copy.compare("a changed list of crates", 4)
-    os.rename(os.path.join(copy.root, "crates/a/new.antt"), os.path.join(copy.root, "crates/a/other.antt"))
+    os.rename(os.path.join(copy.root, "crates/a/new"), os.path.join(copy.root, "crates/a/other"))
     copy.compare("a renamed file", 5)
     os.remove(os.path.join(copy.root, "target/bin/compare"))
     copy.compare("a stamp without the program", 6)
@@ -478,6 +517,46 @@ def built_when_needed(copy):
     copy.put(os.path.join(copy.tools, "version"), "kit 2\n")
     copy.compare("another kit", 8)
     copy.compare("nothing changed", 8)
+    elsewhere = os.path.join(copy.tools, "elsewhere")
+    os.mkdir(elsewhere)
+    copy.put(os.path.join(elsewhere, "lib.rt"), "// a\n")
+    os.symlink(elsewhere, os.path.join(copy.root, "crates/b"))
+    copy.compare("a crate behind a link", 9)
+    copy.put(os.path.join(elsewhere, "lib.rt"), "// b\n")
+    copy.compare("a changed file behind a link", 10)
+    os.remove(os.path.join(copy.root, "crates/b"))
+    with open(os.path.join(copy.tools, "runs"), encoding="utf-8") as file:
+        check("build, what rt is asked for", set(file.read().splitlines()), {"check compare"})
+    os.rename(os.path.join(copy.root, "crates.txt"), os.path.join(copy.root, "kept"))
+    check("build, no list of crates", run(copy.words(), env=copy.env())[:2], (70, b""))
+    os.rename(os.path.join(copy.root, "kept"), os.path.join(copy.root, "crates.txt"))
+
+
+def progress_meanwhile(copy):
+    """Each line of progress comes while the stand-in still runs, and a build goes on where nobody reads them."""
+    copy.put(os.path.join(copy.tools, "seconds"), "2\n")
+    copy.put("crates/a/lib.rt", "// progress\n")
+    program = os.path.join(copy.root, "target/bin/compare")
+    os.remove(program)
+    with subprocess.Popen(copy.words(), env=copy.env(), stdout=subprocess.PIPE, stderr=subprocess.PIPE) as child:
+        line = b"none"
+        while line and b"first_crate" not in line:
+            line = child.stderr.readline()
+        check("build, progress while it builds", (line, os.path.exists(program)), (b"compare: first_crate proved (1 s)\n", False))
+        child.communicate(timeout=SECONDS)
+    copy.put(os.path.join(copy.tools, "seconds"), "0\n")
+    copy.put("crates/a/lib.rt", "// nobody reads\n")
+    reader, writer = os.pipe()
+    os.close(reader)
+    got = subprocess.run(copy.words(), env=copy.env(), stdout=subprocess.PIPE, stderr=writer, timeout=SECONDS)
+    os.close(writer)
+    check("build, nobody reads the progress", (got.returncode, got.stdout), (0, b"equal 0 0 1 1 1 0 0\n"))
+
+
+def others_use(copy):
+    """What one user built another runs, and need not build."""
+    mode = os.stat(os.path.join(copy.root, "target/compare.stamp")).st_mode
+    check("build, the stamp is readable as other files are", mode & 0o777, 0o666 & ~UMASK)
 
 
 def builds_that_fail(copy):
@@ -486,7 +565,8 @@ def builds_that_fail(copy):
     copy.put("crates/a/lib.rt", "// c\n")
     for _ in range(2):
         status, out, err = run(copy.words(), env=copy.env())
-        check("build, a failed proof", (status, out, "third_crate NOT PROVED" in err), (70, b"", True))
+        check("build, a failed proof", (status, out, "compare: third_crate NOT PROVED" in err), (70, b"", True))
+        holds("build, a failed proof, the end of what rt said", "\nwhy it failed\n" in err, err)
     status, out, err = run(copy.words(), env=copy.env(tool=False))
     check("build, no rt after a failed proof", (status, out), (70, b""))
     os.remove(os.path.join(copy.tools, "fail"))
@@ -514,6 +594,8 @@ def builds(room):
     """All of them, and that a build leaves standard input alone."""
     copy = Copy(room.path)
     built_when_needed(copy)
+    progress_meanwhile(copy)
+    others_use(copy)
     builds_that_fail(copy)
     at_once(copy)
     copy.put("crates/a/lib.rt", "// f\n")
@@ -536,6 +618,11 @@ def examples():
     for first, second, line, status in rows:
         got = run([SCRIPT, first, second], cwd=ROOT)
         check(f"examples, {first} {second}", got, (int(status), f"{line}\n".encode(), ""))
+    with open(os.path.join(ROOT, "README.md"), encoding="utf-8") as file:
+        readme = file.read()
+    told = [re.search(r"^    \./compare (\S+) (\S+)$", readme, re.M), re.search(r"and prints `(.*?)`", readme)]
+    told = tuple(word for found in told if found for word in found.groups())
+    holds("examples, README's pair and line", told in [row[:3] for row in rows], told)
     records = sorted(f for f in os.listdir(os.path.join(ROOT, "examples")) if f.endswith(".gates"))
     check("examples, records", len(records), 8)
     for name in records:
@@ -557,7 +644,7 @@ BAD_TEXTS = (
     ("qubits 2\n\nHH 0\n", "line 3"), ("qubits 2\nh 0\n", "line 2"), ("qubits 2\nH\n", "line 2"), ("qubits 2\nH 0 1\n", "line 2"),
     ("qubits 2\nH 2\n", "line 2"), ("qubits 2\nH x\n", "line 2"), ("qubits 2\nCX 0\n", "line 2"), ("qubits 2\nCX 1 1\n", "line 2"),
     ("qubits 2\nCX 0 2\n", "line 2"), ("qubits 2\nCX 0 1 1\n", "line 2"), ("qubits 2\nH -1\n", "line 2"), ("qubits 2\nH ²\n", "line 2"),
-    ("qubits 2\nqubits 2\n", "line 2"), ("qubits 1\n" + "T 0\n" * 513, "line 514"),
+    ("qubits 2\nH " + "0" * 5000 + "\n", "line 2"), ("qubits 2\rH 0\r", "line 1"), ("qubits 2\nqubits 2\n", "line 2"), ("qubits 1\n" + "T 0\n" * 513, "line 514"),
 )
 
 
@@ -565,7 +652,7 @@ def gates_texts(room):
     """What encode takes, and what it turns down with the line's number, nothing written."""
     check("encode, every kind", run([GATES, "encode", "-", "-"], input=KINDS_TEXT.encode()), (0, KINDS_BYTES, ""))
     check("decode, every kind", run([GATES, "decode", "-"], input=KINDS_BYTES), (0, KINDS_TEXT.encode(), ""))
-    other = "# a list\n\n  qubits   1 # one\n\tS† 0\nT† 0#x\n"
+    other = "# a list\n\n  qubits   1 # one\r\n\tS† 0\nT† 0#x\n# a comment ends with its line\u2028X 0\x0cX 0\n"
     check("encode, other spellings", run([GATES, "encode", "-", "-"], input=other.encode()), (0, one("S' T'"), ""))
     check("encode, 512 gates", run([GATES, "encode", "-", "-"], input=b"qubits 1\n" + b"T 0\n" * 512), (0, FULL, ""))
     target, kept = os.path.join(room.path, "target"), room.file(b"kept")
@@ -582,16 +669,21 @@ def gates_texts(room):
 
 def gates_records(room):
     """What decode refuses, held to the program's number for the same file; usage and files."""
-    for number, bad in [*BAD.items(), (12, EXAMPLE + b"\0")]:
+    for number, bad in [*BAD.items(), *((number, bad) for _, bad, number in ORDER), (12, EXAMPLE + b"\0")]:
         got = run([GATES, "decode", "-", os.path.join(room.path, "text")], input=bad)
         check(f"decode, refused {number}", got, (1, b"", f"gates: -: refused {number}\n"))
     check("decode, nothing written", os.path.exists(os.path.join(room.path, "text")), False)
     for words in ([], ["encode"], ["encode", "-"], ["decode"], ["decode", "a", "b", "c"], ["recode", "a", "b"]):
-        check(f"gates, bad usage {words}", run([GATES, *words])[:2], (64, b""))
-    check("gates --help", run([GATES, "--help"])[0], 0)
-    check("gates, missing file", run([GATES, "decode", os.path.join(room.path, "gone")])[:2], (74, b""))
-    with open("/dev/full", "wb") as full:
-        check("gates, /dev/full", run([GATES, "decode", "-"], input=EXAMPLE, stdout=full)[0], 74)
+        status, out, err = run([GATES, *words])
+        check(f"gates, bad usage {words}", (status, out, err[:6]), (64, b"", "usage:"))
+    status, out, _ = run([GATES, "--help"])
+    check("gates --help", (status, b"encode TEXT RECORD" in out), (0, True))
+    gone = os.path.join(room.path, "gone")
+    check("gates, missing file", run([GATES, "decode", gone]), (74, b"", f"gates: {gone}: No such file or directory\n"))
+    check("gates, closed standard error", run(["sh", "-c", 'exec "$@" 2>&-', "sh", GATES, "decode", gone])[:2], (74, b""))
+    for words in (["decode", "-"], ["--help"]):
+        with open("/dev/full", "wb") as full:
+            check(f"gates, /dev/full {words}", run([GATES, *words], input=EXAMPLE, stdout=full)[0], 74)
     check("gates, folder as target", run([GATES, "decode", "-", room.path], input=EXAMPLE)[:2], (74, b""))
     loader = importlib.machinery.SourceFileLoader("gates", GATES)
     sys.dont_write_bytecode = True
@@ -620,7 +712,7 @@ def main():
         print(f"front_door: the script does not run: {status}\n{err}")
         return 1
     parts = (program_answers, program_failures, one_write, script_answers, script_names, script_usage, script_failures,
-             closed_descriptors, unreadable, builds, gates_texts, gates_records)
+             unread_messages, closed_descriptors, unreadable, builds, gates_texts, gates_records)
     for part in parts:
         with tempfile.TemporaryDirectory() as path:
             part(Room(path))

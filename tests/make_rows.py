@@ -55,6 +55,8 @@ def write(program, name, content):
 
 
 def main():
+    if sys.argv[1:] not in ([], ["--check"]):
+        sys.exit("usage: make_rows.py [--check]")
     rows = {program: [] for program in call_rows.PROGRAMS}
     for number, row, answer in read_rows(os.path.join(HERE, "rows.txt")):
         rows[call_rows.program_of(row)].append((row, expected(number, row, answer)))

@@ -1,16 +1,19 @@
 #!/usr/bin/env python3
 """Writes the rows of the program phase_sum_vectors and, from the independent implementation beside this file, what it must print.
 
-    python3 tests/phase_sum_rows.py
+    python3 tests/phase_sum_rows.py [--check]
 
-The files go to crates/phase_sum_vectors/stdin and stdout; the gate runs the program on the one and compares with the other.
+The files go to crates/phase_sum_vectors/stdin and stdout; the gate runs the program on the one and compares with the other. With --check
+nothing is written: the files must be those that would be.
 """
 import os
 import random
 import struct
+import sys
 
 import reference as ref
 
+PROGRAM = os.path.join(os.path.dirname(os.path.abspath(__file__)), "..", "crates", "phase_sum_vectors")
 LOAD, CANONICAL, REPLACE, TAKE_OUT, ODD_MASK, HALVES, PHASE_AT, PARITY, CLEAR, BUILD, APPEND = range(11)
 
 
@@ -131,12 +134,21 @@ def random_gates(rng, n, count, hadamards):
     return gates
 
 
-def write(path, text):
-    with open(path, "wb") as out:
-        out.write(text)
+def put(name, content, check):
+    """A file of the program, written or checked."""
+    path = os.path.join(PROGRAM, name)
+    if not check:
+        with open(path, "wb") as out:
+            out.write(content)
+        return
+    with open(path, "rb") as file:
+        if file.read() != content:
+            sys.exit(f"crates/phase_sum_vectors/{name} is not what tests/phase_sum_rows.py makes: run it")
 
 
 def main():
+    if sys.argv[1:] not in ([], ["--check"]):
+        sys.exit("usage: phase_sum_rows.py [--check]")
     rng = random.Random(5)
     rows = Rows()
     for count, variables in ((0, 4), (1, 1), (2, 1), (13, 3), (40, 4), (40, 64), (200, 6), (300, 64)):
@@ -166,11 +178,11 @@ def main():
             rows.build(3, [(ref.H, 1, 255), (ref.X, 0, 255), gate], [])
             rows.build(3, [(ref.X, 1, 255)], [gate, (ref.H, 0, 255)])
     rows.clear()
-    here = os.path.join(os.path.dirname(os.path.abspath(__file__)), "..", "crates", "phase_sum_vectors")
     data = b"".join(rows.rows)
-    assert len(data) < 65536, len(data)
-    write(os.path.join(here, "stdin"), data)
-    write(os.path.join(here, "stdout"), "".join(line + "\n" for line in rows.lines).encode())
+    if len(data) >= 65536:
+        sys.exit(f"{len(data)} bytes of rows are too many")
+    put("stdin", data, "--check" in sys.argv)
+    put("stdout", "".join(line + "\n" for line in rows.lines).encode(), "--check" in sys.argv)
     print(len(rows.rows), "rows,", len(data), "bytes")
 
 

@@ -1,0 +1,249 @@
+#!/usr/bin/env python3
+"""Tries the gate itself: .ci/run over stand-ins for rt and the tests, and the tests over copies with a fault put in. Each fault must be
+noticed, and what has none must pass.
+
+    python3 tests/gate.py
+
+It prints what was not noticed and fails where anything was not; its last line counts the trials.
+"""
+import contextlib
+import io
+import os
+import shutil
+import subprocess
+import sys
+import tempfile
+
+sys.dont_write_bytecode = True
+import against_reference as cross
+from classes import CLASSES
+
+HERE = os.path.dirname(os.path.abspath(__file__))
+ROOT = os.path.dirname(HERE)
+SECONDS = 120
+HELD = {"trials": 0, "failed": 0}
+
+
+def trial(label, good, shown=""):
+    """One trial; what was printed is shown where it went wrong."""
+    HELD["trials"] += 1
+    if not good:
+        HELD["failed"] += 1
+        print(f"FAILED {label}\n    {shown}")
+
+
+def put(folder, name, content, mode=0o644):
+    """A file in a folder."""
+    path = os.path.join(folder, name)
+    os.makedirs(os.path.dirname(path), exist_ok=True)
+    with open(path, "w", encoding="utf-8") as file:
+        file.write(content)
+    os.chmod(path, mode)
+
+
+# ---- .ci/run
+TESTS = ("make_rows.py --check", "phase_sum_rows.py --check", "gate.py", "documents.py", "against_reference.py", "front_door.py")
+COUNT = "5 passed, 0 failed"
+PIPES = {"stdin": subprocess.DEVNULL, "stdout": subprocess.PIPE, "stderr": subprocess.DEVNULL}
+
+
+def run_gate(folder, ci, failing=None):
+    """(status, lines) of the gate where rt ci is this piece of shell and one test may fail; each test prints a line."""
+    for test in TESTS:
+        name = test.split()[0]
+        put(folder, f"tests/{name}", f"import sys\nprint('ran', {name!r}, *sys.argv[1:])\nsys.exit({int(test == failing)})\n")
+    put(folder, "tools/rt", f'#!/bin/sh\n[ "$*" = ci ] || exit 9\n{ci}\n', 0o755)
+    env = dict(os.environ, PATH=os.path.join(folder, "tools") + ":" + os.environ["PATH"])
+    done = subprocess.run([os.path.join(folder, ".ci/run")], env=env, timeout=SECONDS, **PIPES)
+    return done.returncode, done.stdout.decode().splitlines()
+
+
+def try_gate(folder):
+    """The count of no failures is the last line where everything passed, and nowhere else."""
+    os.mkdir(os.path.join(folder, ".ci"))
+    shutil.copy(os.path.join(ROOT, ".ci", "run"), os.path.join(folder, ".ci"))
+    got = run_gate(folder, f"echo one; echo two; echo '{COUNT}'")
+    trial("gate, all pass", got == (0, ["one", "two", *(f"ran {test}" for test in TESTS), COUNT]), got)
+    for test in TESTS:
+        status, lines = run_gate(folder, f"echo '{COUNT}'", test)
+        trial(f"gate, {test} fails", status == 1 and COUNT not in lines and f"gate: tests/{test.split()[0]} failed" == lines[-1], lines)
+    for label, ci, want in (
+        ("rt ci fails", "echo '4 passed, 1 failed'; exit 3", 3),
+        ("rt ci fails, but counts none", f"echo '{COUNT}'; exit 3", 3),
+        ("rt ci ends well with a failure", "echo '4 passed, 1 failed'", 1),
+        ("rt ci ends well with ten", "echo '4 passed, 10 failed'", 1),
+        ("rt ci ends well with nothing", ":", 1),
+        ("rt ci ends well without a count", f"echo '{COUNT}'; echo more", 1),
+        ("rt ci is ended", f"echo '{COUNT}'; kill -9 $$", 137),
+    ):
+        status, lines = run_gate(folder, ci)
+        ran = [line for line in lines if line.startswith("ran ")]
+        trial(f"gate, {label}", status == want and not ran and (not lines or not lines[-1].endswith(" 0 failed")), (status, lines))
+
+
+# ---- rows and documents, in a copy
+def run_test(folder, *words):
+    """(status, lines) of a test in a copy."""
+    words = [sys.executable, "-B", os.path.join(folder, "tests", words[0]), *words[1:]]
+    done = subprocess.run(words, stdin=subprocess.DEVNULL, stdout=subprocess.PIPE, stderr=subprocess.STDOUT, timeout=SECONDS)
+    return done.returncode, done.stdout.decode().splitlines()
+
+
+class Fault:
+    """A file of a copy with something replaced, put back at the end."""
+
+    def __init__(self, folder, name, old, new):
+        self.path, self.old, self.new = os.path.join(folder, name), old.encode(), new.encode()
+
+    def __enter__(self):
+        with open(self.path, "rb") as file:
+            self.kept = file.read()
+        trial(f"{self.path} has {self.old!r}", self.old in self.kept)
+        with open(self.path, "wb") as file:
+            file.write(self.kept.replace(self.old, self.new, 1))
+
+    def __exit__(self, *_):
+        with open(self.path, "wb") as file:
+            file.write(self.kept)
+
+
+def try_rows(folder):
+    """A row that is mistyped, wrong or lost, and files that are not those of the rows."""
+    for test in ("make_rows.py", "phase_sum_rows.py"):
+        got = run_test(folder, test, "--check")
+        trial(f"{test}, no fault", got[0] == 0, got)
+        trial(f"{test}, an option that is none", run_test(folder, test, "--chek")[0] != 0)
+    for name, test, row in (
+        ("record_calls", "make_rows.py", "5143"),
+        ("pair_calls", "make_rows.py", "h0"),
+        ("phase_sum_vectors", "phase_sum_rows.py", "QC"),
+    ):
+        for file, old in (("stdin", row), ("stdout", "1")):
+            with Fault(folder, f"crates/{name}/{file}", old, "7"):
+                trial(f"{test}, another {file} of {name}", run_test(folder, test, "--check")[0] != 0)
+    row = "01: H;compare;3136 3136 0;1:h0;1: => different 0 0 1 0 0 0 0\n"
+    for label, new in (
+        ("a mistyped gate", row.replace(":h0", ":hh")),
+        ("a gate without its qubit", row.replace(":h0", ":h")),
+        ("a mistyped call", row.replace("compare", "compere")),
+        ("a part too few", row.replace(";1: ", " ")),
+        ("another answer", row.replace("1 0 0 0 0", "1 0 0 0 1")),
+        ("no answer", row.split(" =>")[0] + "\n"),
+        ("a row less", ""),
+        ("a row more", row + row),
+    ):
+        with Fault(folder, "tests/rows.txt", row, new):
+            trial(f"make_rows.py, {label}", run_test(folder, "make_rows.py", "--check")[0] != 0)
+
+
+def try_documents(folder):
+    """Each fault is a line more, whatever is there already."""
+    before = set(run_test(folder, "documents.py")[1])
+
+    def noticed(label, word):
+        status, lines = run_test(folder, "documents.py")
+        more = set(lines) - before
+        trial(f"documents.py, {label}", status != 0 and any(word in line for line in more), sorted(more))
+
+    for label, name, old, new, word in (
+        ("an edit that is not there", "docs/DEMANDS.md", "amplitude/h_sign", "amplitude/h_sing", "h_sing"),
+        ("an edit not cited", "docs/DEMANDS.md", "amplitude/h_sign, ", "", "amplitude/h_sign"),
+        ("a theorem that is not there", "docs/DEMANDS.md", "`equal-is-right`", "`equal-is-rigth`", "equal-is-rigth"),
+        ("a clause that is not there", "README.md", "(`clifford`)", "(`cliford`)", "cliford"),
+        ("a crate not named", "README.md", "`record_report`", "`record_reports`", "record_report"),
+        ("a file that is not there", "README.md", "`docs/DECISIONS.md`", "`docs/DECISION.md`", "docs/DECISION.md"),
+        ("a path of one machine", "README.md", "## Calls", "See /some/where/else.\n\n## Calls", "/some/where"),
+        ("an exit status", "README.md", "| 74 |", "| 73 |", "exit statuses"),
+        ("undecided against itself", "README.md", "even against itself", "sometimes", "against itself"),
+        ("a test not named", "tests/README.md", "`classes.py`", "`clases.py`", "classes.py"),
+        ("a crate not listed", "crates.txt", "\nrecords:", "\nrecord:", "records"),
+    ):
+        with Fault(folder, name, old, new):
+            noticed(label, word)
+    put(folder, "crates/amplitude/must-fail/new_fault.edit", "")
+    noticed("a new edit", "amplitude/new_fault")
+
+
+# ---- the cross-check
+def ends(label, call, *words):
+    """The call ends the run with a failure."""
+    try:
+        with contextlib.redirect_stdout(io.StringIO()):
+            call(*words)
+        trial(label, False, "not noticed")
+    except SystemExit as end:
+        trial(label, end.code not in (None, 0), end.code)
+
+
+def passes(label, call, *words):
+    """The call does not."""
+    try:
+        with contextlib.redirect_stdout(io.StringIO()):
+            call(*words)
+        trial(label, True)
+    except SystemExit as end:
+        trial(label, False, end.code)
+
+
+def try_cross_check(folder):
+    """Programs that print something else, and classes that do not come up."""
+    cross.program = lambda name: os.path.join(folder, name)
+
+    def one_row(text):
+        put(folder, "record_calls", f"#!/bin/sh\n{text}\n", 0o755)
+        check = cross.Check()
+        check.row("check_gate;1 0 0 255;;")
+        check.run_rows()
+
+    passes("cross-check, the row's line", one_row, "echo '0: good'; echo 'rows 1'")
+    for label, text in (
+        ("another line", "echo '0: refused 5'; echo 'rows 1'"),
+        ("no line", "echo 'rows 1'"),
+        ("no count", "echo '0: good'"),
+        ("another count", "echo '0: good'; echo 'rows 2'"),
+        ("a line too many", "echo '0: good'; echo 'rows 1'; echo more"),
+        ("a failure at the end", "echo '0: good'; echo 'rows 1'; exit 1"),
+    ):
+        ends(f"cross-check, record_calls: {label}", one_row, text)
+
+    def one_input(text, want=None):
+        put(folder, "compare", f"#!/bin/sh\n{text}\n", 0o755)
+        cross.Check().run_program(bytes.fromhex("5143010000") * 2, want)
+
+    line = "equal 0 0 0 0 0 0 0"
+    passes("cross-check, the program's line", one_input, f"echo {line}", line)
+    ends("cross-check, another line is written", one_input, f"echo {line}", "equal 0 0 1 1 0 0 0")
+    for label, text in (("another line", "echo equal 0 0 0 0 0 0 1"), ("no end", f"printf '{line}'"), ("ended", f"echo {line}; kill -9 $$")):
+        ends(f"cross-check, compare: {label}", one_input, text)
+    check = cross.Check()
+    check.see(*CLASSES)
+    passes("cross-check, every class", cross.show_classes, check)
+    check.see("a class of its own")
+    ends("cross-check, a class that is not listed", cross.show_classes, check)
+    check = cross.Check()
+    check.see(*CLASSES[1:])
+    ends("cross-check, a class that never came up", cross.show_classes, check)
+    check = cross.Check()
+    check.see(*CLASSES)
+    check.row("check_gate;1 0 0 255;;")
+    ends("cross-check, rows that were not run", cross.show_classes, check)
+
+
+def main():
+    """Runs everything."""
+    for part in (try_gate, try_cross_check):
+        with tempfile.TemporaryDirectory() as folder:
+            part(folder)
+    with tempfile.TemporaryDirectory() as folder:
+        for name in ("tests", "docs", "examples", "bench", "crates", ".ci"):
+            shutil.copytree(os.path.join(ROOT, name), os.path.join(folder, name))
+        for name in ("README.md", "crates.txt", "compare"):
+            shutil.copy(os.path.join(ROOT, name), folder)
+        try_rows(folder)
+        try_documents(folder)
+    print(f"gate: {HELD['trials']} trials, {HELD['failed']} failed")
+    return 1 if HELD["failed"] else 0
+
+
+if __name__ == "__main__":
+    sys.exit(main())
