@@ -4,7 +4,7 @@ ghost use Prim.Native.Nat.{_≤_};
 ghost use mathlib.Core.Bool.{_&&_};
 ghost use lib.ListN.{length, take};
 ghost use Rattle.record_format.specs.Reading.{size};
-ghost use Rattle.phase_sum_terms.specs.Unmerged.{gatesIn};
+ghost use Rattle.phase_sum_types.specs.Unmerged.{gatesIn};
 ghost use Rattle.comparison_types.specs.Call.{comparison, leftBy, verdictOf, isEqual, better, picked, pickedPart, pickedAt};
 ghost use Rattle.comparison_types.specs.Clauses.{PickIsRight, EmptyIfRefused};
 use crate::comparing::compare_read;

@@ -4,7 +4,7 @@ ghost use Prim.Native.Nat.{ℕ, _≤_};
 ghost use mathlib.Core.Bool.{Bool};
 ghost use mathlib.Core.List.{List};
 ghost use lib.ListN.{length};
-ghost use Rattle.phase_sum_terms.specs.Workspace.{parityOf, Lent, slices};
+ghost use Rattle.phase_sum_types.specs.Workspace.{parityOf, Lent, slices};
 ghost use Rattle.comparison_meaning.specs.Verdict.{blockedInput, result, searched, judge};
 ghost use Rattle.comparison_types.specs.Call.{verdictOf, resultOf};
 ghost use Rattle.comparison_types.specs.Inner.{endOf, unblocked};
@@ -13,13 +13,13 @@ use comparison_types::Counts;
 use comparison_types::End;
 use comparison_types::Outcome;
 use comparison_types::Verdict;
-use phase_sum_terms::Found;
-use phase_sum_terms::Parity;
-use phase_sum_terms::Sum;
-use phase_sum_terms::sets::below;
-use phase_sum_terms::sets::count;
-use phase_sum_terms::sets::is_empty;
-use phase_sum_terms::sets::lowest;
+use phase_sum_sets::below;
+use phase_sum_sets::count;
+use phase_sum_sets::is_empty;
+use phase_sum_sets::lowest;
+use phase_sum_types::Found;
+use phase_sum_types::Parity;
+use phase_sum_types::Sum;
 
 // An input that makes a blocked parity 1: 0 if its constant is 1, else the input that holds only its lowest qubit.
 fn blocked_input(by: Parity, n: usize) -> u16

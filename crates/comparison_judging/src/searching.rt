@@ -8,12 +8,12 @@ ghost use lib.Dec.{eqb};
 ghost use Rattle.phase_sum_meaning.specs.Sets.{single};
 ghost use Rattle.phase_sum_meaning.specs.Phase.{phaseAt};
 ghost use Rattle.comparison_meaning.specs.Verdict.{weight, candidates, firstDiffering};
-ghost use Rattle.phase_sum_terms.specs.Workspace.{phaseOf};
+ghost use Rattle.phase_sum_types.specs.Workspace.{phaseOf};
 ghost use Rattle.comparison_types.specs.Inner.{inputOf};
+use phase_sum_sets::is_empty;
 use phase_sum_stepping::odd_mask;
-use phase_sum_terms::Phase;
-use phase_sum_terms::sets::is_empty;
 use phase_sum_terms::terms::phase_at;
+use phase_sum_types::Phase;
 
 // The input that holds qubit q alone.
 fn only(q: u32) -> u64

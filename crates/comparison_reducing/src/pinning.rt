@@ -5,21 +5,21 @@ ghost use lib.ListN.{length, getD};
 ghost use Rattle.phase_sum_meaning.specs.Parity.{of, _⊕_, rest};
 ghost use Rattle.phase_sum_meaning.specs.Building.{input};
 ghost use Rattle.phase_sum_meaning.specs.Room.{mostVariables};
-ghost use Rattle.phase_sum_terms.specs.Workspace.{parityOf, zipWires, lent, before, after, Sized};
+ghost use Rattle.phase_sum_types.specs.Workspace.{parityOf, zipWires, lent, before, after, Sized};
 ghost use Rattle.comparison_meaning.specs.Reduction.{isZero};
 ghost use Rattle.comparison_types.specs.Inner.{PinnedQubit, PinnedAll};
 use comparison_types::Counts;
 use comparison_types::End;
+use phase_sum_sets::empty;
+use phase_sum_sets::exclusive_or;
+use phase_sum_sets::is_empty;
+use phase_sum_sets::lowest_in;
+use phase_sum_sets::single;
 use phase_sum_stepping::replace;
-use phase_sum_terms::Found;
-use phase_sum_terms::Parity;
-use phase_sum_terms::Sum;
-use phase_sum_terms::sets::empty;
-use phase_sum_terms::sets::exclusive_or;
-use phase_sum_terms::sets::is_empty;
-use phase_sum_terms::sets::lowest_in;
-use phase_sum_terms::sets::single;
 use phase_sum_terms::wires::wire;
+use phase_sum_types::Found;
+use phase_sum_types::Parity;
+use phase_sum_types::Sum;
 
 // The parity of output wire q and input q together.
 fn mismatch(ws: &[u64], fs: &[bool], q: usize) -> Parity

@@ -6,27 +6,27 @@ ghost use lib.ListN.{length};
 ghost use Rattle.amplitude.specs.Bits.{bit};
 ghost use Rattle.phase_sum_meaning.specs.Stepping.{kindOf, constraint, constrained, firstReady};
 ghost use Rattle.phase_sum_meaning.specs.Room.{mostVariables};
-ghost use Rattle.phase_sum_terms.specs.Workspace.{setOf, held, parityOf, members, foundOf, lent, before, after, Sized};
+ghost use Rattle.phase_sum_types.specs.Workspace.{setOf, held, parityOf, members, foundOf, lent, before, after, Sized};
 ghost use Rattle.comparison_meaning.specs.Reduction.{addSum, addTurn, addJoin};
 ghost use Rattle.comparison_types.specs.Inner.{countsOf, CountedTo, Goes, StepsTo, StepsAt, ReducedTo};
 use crate::pinning::rest_of;
 use comparison_types::Counts;
 use comparison_types::End;
+use phase_sum_sets::count;
+use phase_sum_sets::empty;
+use phase_sum_sets::is_empty;
+use phase_sum_sets::lowest_in;
+use phase_sum_sets::lowest_out;
+use phase_sum_sets::without;
 use phase_sum_stepping::halves_of;
 use phase_sum_stepping::join_out;
 use phase_sum_stepping::odd_mask;
 use phase_sum_stepping::take_out;
 use phase_sum_stepping::turn_out;
-use phase_sum_terms::Found;
-use phase_sum_terms::Parity;
-use phase_sum_terms::Sum;
-use phase_sum_terms::sets::Set;
-use phase_sum_terms::sets::count;
-use phase_sum_terms::sets::empty;
-use phase_sum_terms::sets::is_empty;
-use phase_sum_terms::sets::lowest_in;
-use phase_sum_terms::sets::lowest_out;
-use phase_sum_terms::sets::without;
+use phase_sum_types::Found;
+use phase_sum_types::Parity;
+use phase_sum_types::Set;
+use phase_sum_types::Sum;
 
 // One sum more.
 fn add_sum(counts: Counts) -> Counts

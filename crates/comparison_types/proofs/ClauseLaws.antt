@@ -22,11 +22,11 @@ use Rattle.amplitude.proofs.Linear.{tally-append}
 use Rattle.phase_sum_meaning.specs.Building.{PathSum, build}
 use Rattle.phase_sum_meaning.specs.Room.{roomFor, room, mostVariables, places}
 use Rattle.phase_sum_meaning.proofs.Roominess.{room-build, tally-inverse-room}
-use Rattle.phase_sum_terms.specs.Workspace.{setOf, over, Lent, members, Sized}
-use Rattle.phase_sum_terms.specs.Unmerged.{gatesIn, Builds, Buildable}
-use Rattle.phase_sum_terms.specs.declared.Sum.{Sum}
-use Rattle.phase_sum_terms.proofs.Storing.{over-padded}
-use Rattle.phase_sum_terms.proofs.Acceptance.{buildable}
+use Rattle.phase_sum_types.specs.Workspace.{setOf, over, Lent, members, Sized}
+use Rattle.phase_sum_types.specs.Unmerged.{gatesIn, Builds, Buildable}
+use Rattle.phase_sum_types.specs.declared.Sum.{Sum}
+use Rattle.phase_sum_types.proofs.Storing.{over-padded}
+use Rattle.phase_sum_types.proofs.Acceptance.{buildable}
 use Rattle.comparison_meaning.specs.Reduction as reduction
 use Rattle.comparison_meaning.specs.Reduction.{pinned, reduceEnd}
 use Rattle.comparison_meaning.specs.Verdict.{Result, equal, different, miter, judge, compare}
@@ -42,7 +42,7 @@ use Rattle.comparison_types.specs.declared.Answer.{Answer}
 use Rattle.comparison_types.specs.declared.Answer.the-variants.{Compared}
 use Rattle.comparison_types.specs.declared.PairCheck.{PairCheck}
 use Rattle.comparison_types.specs.declared.PairCheck.the-variants.{Good}
-use Rattle.phase_sum_terms.proofs.Running.{AsLong}
+use Rattle.phase_sum_types.proofs.Running.{AsLong}
 use Rattle.comparison_types.proofs.PairLaws.{part-of, gates-of}
 
 -- a sum that was built of two lists in slices with room for them has room to be reduced

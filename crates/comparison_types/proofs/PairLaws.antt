@@ -25,9 +25,9 @@ use Rattle.record_format.proofs.Reading.{Accepts, accepts}
 use Rattle.record_format.proofs.Rows.{first-none, first-some}
 use Rattle.amplitude.specs.Circuit.{tally, hGates}
 use Rattle.phase_sum_meaning.specs.Room.{mostVariables, places}
-use Rattle.phase_sum_terms.specs.Unmerged.{gatesIn}
-use Rattle.phase_sum_terms.proofs.Acceptance.{gates-of-part}
-use Rattle.phase_sum_terms.proofs.Tallying.{one-h}
+use Rattle.phase_sum_types.specs.Unmerged.{gatesIn}
+use Rattle.phase_sum_types.proofs.Acceptance.{gates-of-part}
+use Rattle.phase_sum_types.proofs.Tallying.{one-h}
 use Rattle.comparison_types.specs.Call.{numberOf, pairRows, workspaceRows, pairFault}
 use Rattle.comparison_types.specs.Inner.{AcceptedWith, numberIn, pairNumber}
 use Rattle.comparison_types.specs.declared.Refusal.{Refusal}

@@ -18,7 +18,7 @@ use Rattle.record_format.proofs.Encoding.{length-raws}
 use Rattle.amplitude.specs.Number.{√2^}
 use Rattle.amplitude.specs.Circuit.{hGates, tGates, column}
 use Rattle.amplitude.proofs.Linear.{ω^-zero}
-use Rattle.phase_sum_terms.specs.Unmerged.{gatesIn}
+use Rattle.phase_sum_types.specs.Unmerged.{gatesIn}
 use Rattle.comparison_meaning.specs.Demands.{Accepted, SomePower}
 use Rattle.comparison_meaning.specs.Verdict.{Result}
 use Rattle.comparison_types.specs.Call.{numberOf, Said, says, refuses, verdictOf, resultOf, saidOf, workspaceRows, pairFault, compareRead, unlessFault, comparison, leftBy, better, Choice, theFirst, theSecond, nothing, isEqual, choice, picked, ownBytes, pickedPart, pickedAt}

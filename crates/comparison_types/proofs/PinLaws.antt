@@ -16,12 +16,12 @@ use Rattle.phase_sum_meaning.specs.Building.{PathSum, input}
 use Rattle.phase_sum_meaning.specs.Stepping.{replace}
 use Rattle.phase_sum_meaning.specs.Room.{mostVariables}
 use Rattle.phase_sum_meaning.proofs.VariableLaws.{firstSuch-some}
-use Rattle.phase_sum_terms.specs.Workspace.{setOf, parityOf, Lent, members, sumOf, Became, Sized}
-use Rattle.phase_sum_terms.specs.declared.Parity.{Parity as ParityWord}
-use Rattle.phase_sum_terms.specs.declared.Sum.{Sum}
-use Rattle.phase_sum_terms.proofs.Members.{member-held}
-use Rattle.phase_sum_terms.proofs.Running.{AsLong, long-after}
-use Rattle.phase_sum_terms.proofs.Changing.{room-replace, still-sized}
+use Rattle.phase_sum_types.specs.Workspace.{setOf, parityOf, Lent, members, sumOf, Became, Sized}
+use Rattle.phase_sum_types.specs.declared.Parity.{Parity as ParityWord}
+use Rattle.phase_sum_types.specs.declared.Sum.{Sum}
+use Rattle.phase_sum_types.proofs.Members.{member-held}
+use Rattle.phase_sum_types.proofs.Running.{AsLong, long-after}
+use Rattle.phase_sum_types.proofs.Changing.{room-replace, still-sized}
 use Rattle.comparison_meaning.specs.Reduction as reduction
 use Rattle.comparison_meaning.specs.Reduction.{addPin, isZero, mismatch, pinFrom, pinned}
 use Rattle.comparison_types.specs.Inner.{countsOf, noSteps, blockedBy, endOf, CountedTo, PinnedQubit, PinnedAll}

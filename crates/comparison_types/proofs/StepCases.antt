@@ -17,16 +17,16 @@ use Rattle.phase_sum_meaning.specs.Building.{PathSum}
 use Rattle.phase_sum_meaning.specs.Stepping.{Kind, sum, turn, constraint, kindOf, constrained, firstReady, outOf, replace, takeOut, turned}
 use Rattle.phase_sum_meaning.specs.Room.{mostVariables}
 use Rattle.phase_sum_meaning.proofs.VariableLaws.{firstSuch-some}
-use Rattle.phase_sum_terms.specs.Workspace.{setOf, held, parityOf, Lent, members, foundOf, sumOf, Sized}
+use Rattle.phase_sum_types.specs.Workspace.{setOf, held, parityOf, Lent, members, foundOf, sumOf, Sized}
 use Rattle.comparison_meaning.specs.Reduction.{addSum, addTurn, addJoin, goes, stuck, stepWith, stepAt, stops, blocks, reduceFrom}
 use Rattle.comparison_meaning.specs.Reduction as reduction
 use Rattle.comparison_types.specs.declared.Counts.{Counts}
-use Rattle.phase_sum_terms.specs.declared.Sum.{Sum}
+use Rattle.phase_sum_types.specs.declared.Sum.{Sum}
 use Rattle.comparison_types.specs.declared.End.{End}
-use Rattle.phase_sum_terms.specs.declared.Found.{Found}
+use Rattle.phase_sum_types.specs.declared.Found.{Found}
 use Rattle.comparison_types.specs.Inner.{countsOf, Goes, nextOf, CountedTo, stepTo, Stays, ReducedTo}
-use Rattle.phase_sum_terms.proofs.Members.{member-held, members-without, members-few}
-use Rattle.phase_sum_terms.proofs.Running.{AsLong, long-after}
+use Rattle.phase_sum_types.proofs.Members.{member-held, members-without, members-few}
+use Rattle.phase_sum_types.proofs.Running.{AsLong, long-after}
 
 -- tests that agree find the same number
 firstSuch-same : (f g : ℕ → Bool) → ((v : ℕ) → f v ≡ g v) → (vs : List ℕ) → firstSuch f vs ≡ firstSuch g vs

@@ -23,10 +23,10 @@ use Rattle.phase_sum_meaning.proofs.VariableLaws.{from-among}
 use Rattle.comparison_meaning.specs.Reduction.{End, reduceEnd}
 use Rattle.comparison_meaning.specs.Verdict.{candidates, firstDiffering, different, equal, result, searched}
 use Rattle.comparison_meaning.proofs.Weight.{search-some}
-use Rattle.phase_sum_terms.specs.Workspace.{members}
+use Rattle.phase_sum_types.specs.Workspace.{members}
 use Rattle.comparison_types.specs.Inner.{inputOf}
-use Rattle.phase_sum_terms.proofs.Members.{length-members, members-none}
-use Rattle.phase_sum_terms.proofs.Windows.{from-split}
+use Rattle.phase_sum_types.proofs.Members.{length-members, members-none}
+use Rattle.phase_sum_types.proofs.Windows.{from-split}
 
 -- a bit below n of a number with a multiple of 2^n added
 bit-block : (v n a r : ℕ) → v < n → bit v (a * 2 ^ n + r) ≡ bit v r

@@ -12,11 +12,11 @@ use Rattle.record_format.specs.Reading.{accepted, read}
 use Rattle.phase_sum_meaning.specs.Parity.{Parity, rest}
 use Rattle.phase_sum_meaning.specs.Building.{PathSum}
 use Rattle.phase_sum_meaning.specs.Stepping.{replace, takeOut, turned, kindOf, sum, turn, constraint, constrained}
-use Rattle.phase_sum_terms.specs.Workspace.{setOf, parityOf, Lent, members, sumOf, Sized}
+use Rattle.phase_sum_types.specs.Workspace.{setOf, parityOf, Lent, members, sumOf, Sized}
 use Rattle.comparison_meaning.specs.Reduction as reduction
 use Rattle.comparison_types.specs.Call.{numberOf}
-use Rattle.phase_sum_terms.specs.declared.Sum.{Sum}
-use Rattle.phase_sum_terms.specs.declared.Parity.{Parity as ParityWord}
+use Rattle.phase_sum_types.specs.declared.Sum.{Sum}
+use Rattle.phase_sum_types.specs.declared.Parity.{Parity as ParityWord}
 use Rattle.comparison_types.specs.declared.Answer.{Answer}
 use Rattle.comparison_types.specs.declared.Answer.the-variants.{Compared, Refused}
 use Rattle.comparison_types.specs.declared.Counts.{Counts}

@@ -6,8 +6,8 @@ ghost use Rattle.record_format.specs.Format.{lastVerdict};
 ghost use Rattle.record_format.specs.Answer.{fields};
 ghost use Rattle.comparison_meaning.specs.Verdict.{numbers};
 ghost use Rattle.comparison_types.specs.Call.{numberOf, verdictNumber, resultOf};
-use phase_sum_terms::Parity;
-use phase_sum_terms::Sum;
+use phase_sum_types::Parity;
+use phase_sum_types::Sum;
 use record_format::Report;
 
 // The three verdicts.

@@ -8,19 +8,19 @@ ghost use lib.ListN.{length};
 ghost use Rattle.record_format.specs.Gate.{Within, gateOf, raw, one, two, X, Y, CX, CZ, SWAP};
 ghost use Rattle.phase_sum_meaning.specs.Parity.{_⊕_};
 ghost use Rattle.phase_sum_meaning.specs.Building.{PathSum, productBy};
-ghost use Rattle.phase_sum_terms.specs.Workspace.{phaseOf, Phased, alone, parityOf, zipWires, lent, before, after};
-ghost use Rattle.phase_sum_terms.specs.Unmerged.{putBehind, appendGate, sumIn, Runnable, Leaves, Runs, movesOnly, Moves};
-ghost use Rattle.phase_sum_terms.specs.Inner.{onH, appendPhase};
-use phase_sum_terms::Parity;
-use phase_sum_terms::Phase;
-use phase_sum_terms::Run;
-use phase_sum_terms::sets::exclusive_or;
-use phase_sum_terms::sets::single;
+ghost use Rattle.phase_sum_types.specs.Workspace.{phaseOf, Phased, alone, parityOf, zipWires, lent, before, after};
+ghost use Rattle.phase_sum_types.specs.Unmerged.{putBehind, appendGate, sumIn, Runnable, Leaves, Runs, movesOnly, Moves};
+ghost use Rattle.phase_sum_types.specs.Inner.{onH, appendPhase};
+use phase_sum_sets::exclusive_or;
+use phase_sum_sets::single;
 use phase_sum_terms::terms::add;
 use phase_sum_terms::terms::append;
 use phase_sum_terms::terms::negate;
 use phase_sum_terms::wires::set_wire;
 use phase_sum_terms::wires::wire;
+use phase_sum_types::Parity;
+use phase_sum_types::Phase;
+use phase_sum_types::Run;
 use record_format::gate;
 
 // The exclusive or of two wires.

@@ -6,12 +6,12 @@ ghost use mathlib.Core.List.{[], _∷_, _++_};
 ghost use lib.ListN.{length, take, drop, replicate};
 ghost use Rattle.phase_sum_meaning.specs.Sets.{parity};
 ghost use Rattle.phase_sum_meaning.specs.Phase.{term, minus, phaseAt};
-ghost use Rattle.phase_sum_terms.specs.Workspace.{setOf, held, Stored};
-use crate::Phase;
-use crate::sets::Set;
-use crate::sets::load;
-use crate::sets::parity;
-use crate::sets::store;
+ghost use Rattle.phase_sum_types.specs.Workspace.{setOf, held, Stored};
+use phase_sum_sets::load;
+use phase_sum_sets::parity;
+use phase_sum_sets::store;
+use phase_sum_types::Phase;
+use phase_sum_types::Set;
 
 // The sum of two coefficients mod 8.
 pub fn add(a: u8, b: u8) -> u8

@@ -3,10 +3,10 @@ ghost use mathlib.Core.Path.{_≡_};
 ghost use Prim.Native.Nat.{_<_};
 ghost use lib.ListN.{length, getD, set};
 ghost use Rattle.phase_sum_meaning.specs.Parity.{of};
-ghost use Rattle.phase_sum_terms.specs.Workspace.{parityOf, zipWires};
-use crate::Parity;
-use crate::sets::load;
-use crate::sets::store;
+ghost use Rattle.phase_sum_types.specs.Workspace.{parityOf, zipWires};
+use phase_sum_sets::load;
+use phase_sum_sets::store;
+use phase_sum_types::Parity;
 
 // Wire q.
 pub fn wire(ws: &[u64], fs: &[bool], q: usize) -> Parity

@@ -6,7 +6,7 @@ mod row;
 mod steps;
 
 use libc::STDIN_FILENO;
-use phase_sum_terms::Phase;
+use phase_sum_types::Phase;
 
 // One row after another, until the input ends.
 fn run(input: &[u8], sets: &mut [u64], coeffs: &mut [u8]) {

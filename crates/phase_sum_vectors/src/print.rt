@@ -1,7 +1,7 @@
 // Numbers in decimal, a space behind each, and line ends.
 use crate::steps::Wires;
 use libc::STDOUT_FILENO;
-use phase_sum_terms::sets::Set;
+use phase_sum_types::Set;
 
 // A number and a space.
 pub(crate) fn number(x: u64) {

@@ -6,13 +6,13 @@ use crate::pair;
 use crate::print;
 use crate::row;
 use crate::row::Row;
-use phase_sum_terms::Parity;
-use phase_sum_terms::Phase;
-use phase_sum_terms::Sum;
-use phase_sum_terms::sets::Set;
-use phase_sum_terms::sets::empty;
-use phase_sum_terms::sets::parity;
+use phase_sum_sets::empty;
+use phase_sum_sets::parity;
 use phase_sum_terms::terms;
+use phase_sum_types::Parity;
+use phase_sum_types::Phase;
+use phase_sum_types::Set;
+use phase_sum_types::Sum;
 
 // The qubits that the wires have places for.
 pub(crate) const QUBITS: usize = 16;

@@ -8,7 +8,7 @@ use native.Mathlib.Omega.{arith}
 use Rattle.record_format.specs.Row.{first}
 use Rattle.amplitude.specs.Circuit.{hGates}
 use Rattle.phase_sum_meaning.specs.Room.{mostVariables}
-use Rattle.phase_sum_terms.specs.Unmerged.{gatesIn}
+use Rattle.phase_sum_types.specs.Unmerged.{gatesIn}
 use Rattle.comparison_types.specs.Inner.{numberIn}
 use Rattle.comparison_types.proofs.PairLaws.{whole-of, gates-of, small, differ, too-many, below-decide}
 use Rattle.comparison_checking.proofs.check_sizes.Statement.{statement}

@@ -6,10 +6,10 @@ use Prim.Native.Nat.{ℕ, _+_, _-_, _%_, _≤_, _<_}
 use native.Mathlib.Omega.{arith}
 use lib.ListN.{length, drop, drop-of-length-le}
 use Rattle.record_format.specs.Reading.{raws}
-use Rattle.phase_sum_terms.specs.declared.Run.{Run}
-use Rattle.phase_sum_terms.specs.Workspace.{Lent, slices}
-use Rattle.phase_sum_terms.specs.Unmerged.{gatesIn, appendGates, sumIn, Runnable, Runs, RunsAll}
-use Rattle.phase_sum_terms.proofs.Running.{AsLong, ToRun, none-run, one-run, all-run, first-fit, moves-leaves, gateAt, gates-from}
+use Rattle.phase_sum_types.specs.declared.Run.{Run}
+use Rattle.phase_sum_types.specs.Workspace.{Lent, slices}
+use Rattle.phase_sum_types.specs.Unmerged.{gatesIn, appendGates, sumIn, Runnable, Runs, RunsAll}
+use Rattle.phase_sum_types.proofs.Running.{AsLong, ToRun, none-run, one-run, all-run, first-fit, moves-leaves, gateAt, gates-from}
 use Rattle.phase_sum_building.proofs.forwards.Statement.{statement}
 use Rattle.phase_sum_building.proofs.forwards.Tie as tie
 

@@ -5,8 +5,8 @@ use Prim.Native.Nat.{_-_, _≤_}
 use mathlib.Core.Path.{_≡_}
 use native.Mathlib.Omega.{arith}
 use borrow.Author.Needs.{needs}
-use Rattle.phase_sum_terms.specs.Workspace.{setOf}
-use Rattle.phase_sum_terms.proofs.Windows.{Window, window-empty, window-more, members-window}
+use Rattle.phase_sum_types.specs.Workspace.{setOf}
+use Rattle.phase_sum_types.proofs.Windows.{Window, window-empty, window-more, members-window}
 use Rattle.phase_sum_building.proofs.path_variables.Statement.{statement}
 use Rattle.phase_sum_building.proofs.path_variables.Tie as tie
 

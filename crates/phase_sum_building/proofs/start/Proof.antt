@@ -9,9 +9,9 @@ use lib.ListN.{length, take, replicate, length-set}
 use denote.Ref.{now}
 use Rattle.phase_sum_meaning.specs.Sets.{single, from}
 use Rattle.phase_sum_meaning.specs.Building.{initial}
-use Rattle.phase_sum_terms.specs.Workspace.{zipTerms}
-use Rattle.phase_sum_terms.proofs.Storing.{stored-same}
-use Rattle.phase_sum_terms.proofs.WireLaws.{inputs-more, flips-more, inputs-all}
+use Rattle.phase_sum_types.specs.Workspace.{zipTerms}
+use Rattle.phase_sum_types.proofs.Storing.{stored-same}
+use Rattle.phase_sum_types.proofs.WireLaws.{inputs-more, flips-more, inputs-all}
 use Rattle.phase_sum_building.proofs.start.Statement.{statement}
 use Rattle.phase_sum_building.proofs.start.Tie as tie
 

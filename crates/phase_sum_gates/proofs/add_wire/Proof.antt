@@ -1,8 +1,8 @@
 -- `phase_sum_gates::add_wire` meets its contract.
 -- Assumes nothing.
 use denote.Ref.{now}
-use Rattle.phase_sum_terms.proofs.Running.{cx-moves}
-use Rattle.phase_sum_terms.specs.Workspace.{zipWires}
+use Rattle.phase_sum_types.proofs.Running.{cx-moves}
+use Rattle.phase_sum_types.specs.Workspace.{zipWires}
 use borrow.Author.Needs.{needs}
 use Rattle.phase_sum_gates.proofs.add_wire.Statement.{statement}
 use Rattle.phase_sum_gates.proofs.add_wire.Tie as tie

@@ -1,8 +1,8 @@
 -- `phase_sum_gates::diagonal` meets its contract.
 -- Assumes nothing.
 use native.Mathlib.Omega.{arith}
-use Rattle.phase_sum_terms.proofs.Running.{diagonal-leaves}
-use Rattle.phase_sum_terms.specs.Workspace.{lent}
+use Rattle.phase_sum_types.proofs.Running.{diagonal-leaves}
+use Rattle.phase_sum_types.specs.Workspace.{lent}
 use borrow.Author.Needs.{needs}
 use Rattle.phase_sum_gates.proofs.diagonal.Statement.{statement}
 use Rattle.phase_sum_gates.proofs.diagonal.Tie as tie

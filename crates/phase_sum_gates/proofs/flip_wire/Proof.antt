@@ -1,9 +1,9 @@
 -- `phase_sum_gates::flip_wire` meets its contract.
 -- Assumes nothing.
 use denote.Ref.{now}
-use Rattle.phase_sum_terms.proofs.WireLaws.{zip-flip}
-use Rattle.phase_sum_terms.proofs.Running.{x-moves}
-use Rattle.phase_sum_terms.specs.Workspace.{zipWires}
+use Rattle.phase_sum_types.proofs.WireLaws.{zip-flip}
+use Rattle.phase_sum_types.proofs.Running.{x-moves}
+use Rattle.phase_sum_types.specs.Workspace.{zipWires}
 use borrow.Author.Needs.{needs}
 use Rattle.phase_sum_gates.proofs.flip_wire.Statement.{statement}
 use Rattle.phase_sum_gates.proofs.flip_wire.Tie as tie

@@ -2,8 +2,8 @@
 -- Assumes nothing.
 use native.Mathlib.Omega.{arith}
 use mathlib.Core.Path.{refl, ap}
-use Rattle.phase_sum_terms.proofs.Running.{hadamard-leaves}
-use Rattle.phase_sum_terms.specs.Workspace.{lent}
+use Rattle.phase_sum_types.proofs.Running.{hadamard-leaves}
+use Rattle.phase_sum_types.specs.Workspace.{lent}
 use Rattle.amplitude.specs.Circuit.{tally}
 use Rattle.phase_sum_meaning.specs.Room.{roomFor}
 use Rattle.record_format.specs.Gate.{oneQubitKind}

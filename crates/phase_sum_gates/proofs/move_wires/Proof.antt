@@ -2,7 +2,7 @@
 -- Assumes nothing.
 use native.Mathlib.Omega.{arith}
 use Rattle.record_format.specs.Gate.{gateOf}
-use Rattle.phase_sum_terms.proofs.Running.{bytes-within, kind-swap, kind-moves}
+use Rattle.phase_sum_types.proofs.Running.{bytes-within, kind-swap, kind-moves}
 use borrow.Author.Needs.{needs}
 use Rattle.phase_sum_gates.proofs.move_wires.Statement.{statement}
 use Rattle.phase_sum_gates.proofs.move_wires.Tie as tie

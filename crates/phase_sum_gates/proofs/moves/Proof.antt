@@ -2,7 +2,7 @@
 -- Assumes nothing.
 use Rattle.record_format.specs.Gate.{gateOf}
 use Rattle.phase_sum_meaning.specs.Room.{roomFor}
-use Rattle.phase_sum_terms.proofs.Running.{above-cz}
+use Rattle.phase_sum_types.proofs.Running.{above-cz}
 use Rattle.phase_sum_gates.proofs.moves.Statement.{statement}
 use Rattle.phase_sum_gates.proofs.moves.Tie as tie
 

@@ -2,7 +2,7 @@
 -- Assumes nothing.
 use mathlib.Core.Path.{refl}
 use borrow.Author.Needs.{needs}
-use Rattle.phase_sum_terms.specs.Unmerged.{phaseTerm, putBehind}
+use Rattle.phase_sum_types.specs.Unmerged.{phaseTerm, putBehind}
 use Rattle.phase_sum_gates.proofs.put_phase.Statement.{statement}
 use Rattle.phase_sum_gates.proofs.put_phase.Tie as tie
 

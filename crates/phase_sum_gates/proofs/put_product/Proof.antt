@@ -7,9 +7,9 @@ use mathlib.Core.List.{[], _∷_}
 use lib.ListN.{length}
 use borrow.Author.Needs.{needs}
 use Rattle.phase_sum_meaning.specs.Building.{withPhase}
-use Rattle.phase_sum_terms.specs.Workspace.{parityOf}
-use Rattle.phase_sum_terms.specs.Unmerged.{putBehind}
-use Rattle.phase_sum_terms.proofs.WireLaws.{stored-count, put-more}
+use Rattle.phase_sum_types.specs.Workspace.{parityOf}
+use Rattle.phase_sum_types.specs.Unmerged.{putBehind}
+use Rattle.phase_sum_types.proofs.WireLaws.{stored-count, put-more}
 use Rattle.phase_sum_gates.proofs.put_product.Statement.{statement}
 use Rattle.phase_sum_gates.proofs.put_product.Tie as tie
 

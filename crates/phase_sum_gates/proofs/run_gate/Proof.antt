@@ -5,7 +5,7 @@ use native.Mathlib.Omega.{arith}
 use lib.ListN.{length}
 use denote.Ref.{now}
 use Rattle.amplitude.specs.Circuit.{tally}
-use Rattle.phase_sum_terms.proofs.Running.{kind-y, kind-h, kind-cz, bytes-within, kind-diagonal, diagonal-room}
+use Rattle.phase_sum_types.proofs.Running.{kind-y, kind-h, kind-cz, bytes-within, kind-diagonal, diagonal-room}
 use borrow.Author.Needs.{needs}
 use Rattle.phase_sum_gates.proofs.run_gate.Statement.{statement}
 use Rattle.phase_sum_gates.proofs.run_gate.Tie as tie

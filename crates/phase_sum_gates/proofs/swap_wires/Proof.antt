@@ -1,8 +1,8 @@
 -- `phase_sum_gates::swap_wires` meets its contract.
 -- Assumes nothing.
 use denote.Ref.{now}
-use Rattle.phase_sum_terms.proofs.Running.{swap-moves}
-use Rattle.phase_sum_terms.specs.Workspace.{zipWires}
+use Rattle.phase_sum_types.proofs.Running.{swap-moves}
+use Rattle.phase_sum_types.specs.Workspace.{zipWires}
 use borrow.Author.Needs.{needs}
 use Rattle.phase_sum_gates.proofs.swap_wires.Statement.{statement}
 use Rattle.phase_sum_gates.proofs.swap_wires.Tie as tie

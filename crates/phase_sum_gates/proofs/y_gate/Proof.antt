@@ -1,8 +1,8 @@
 -- `phase_sum_gates::y_gate` meets its contract.
 -- Assumes nothing.
 use native.Mathlib.Omega.{arith}
-use Rattle.phase_sum_terms.proofs.Running.{x-moved, y-leaves}
-use Rattle.phase_sum_terms.specs.Workspace.{lent}
+use Rattle.phase_sum_types.proofs.Running.{x-moved, y-leaves}
+use Rattle.phase_sum_types.specs.Workspace.{lent}
 use Rattle.amplitude.specs.Circuit.{tally}
 use Rattle.phase_sum_meaning.specs.Room.{roomFor}
 use borrow.Author.Needs.{needs}

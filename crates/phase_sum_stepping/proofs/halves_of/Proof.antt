@@ -8,9 +8,9 @@ use lib.ListN.{getD}
 use borrow.Author.Needs.{needs}
 use Rattle.phase_sum_meaning.specs.Phase.{term}
 use Rattle.phase_sum_meaning.specs.Stepping as stepping
-use Rattle.phase_sum_terms.specs.Workspace.{setOf, zipTerms, held}
-use Rattle.phase_sum_terms.proofs.Storing.{held-more}
-use Rattle.phase_sum_terms.proofs.Passes.{coeffs-more, oddHalves-more}
+use Rattle.phase_sum_types.specs.Workspace.{setOf, zipTerms, held}
+use Rattle.phase_sum_types.proofs.Storing.{held-more}
+use Rattle.phase_sum_types.proofs.Passes.{coeffs-more, oddHalves-more}
 use Rattle.phase_sum_stepping.proofs.halves_of.Statement.{statement}
 use Rattle.phase_sum_stepping.proofs.halves_of.Tie as tie
 

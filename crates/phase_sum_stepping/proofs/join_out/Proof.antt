@@ -3,10 +3,10 @@
 use native.Mathlib.Omega.{arith}
 use Rattle.phase_sum_meaning.specs.Parity.{of, replaceIn}
 use Rattle.phase_sum_meaning.specs.Stepping.{replace, takeOut}
-use Rattle.phase_sum_terms.specs.Workspace.{setOf, parityOf, lent, sumOf}
-use Rattle.phase_sum_terms.proofs.Members.{members-without}
-use Rattle.phase_sum_terms.proofs.Changing.{became}
-use Rattle.phase_sum_terms.proofs.Passes.{rebuilt, joined-out}
+use Rattle.phase_sum_types.specs.Workspace.{setOf, parityOf, lent, sumOf}
+use Rattle.phase_sum_types.proofs.Members.{members-without}
+use Rattle.phase_sum_types.proofs.Changing.{became}
+use Rattle.phase_sum_types.proofs.Passes.{rebuilt, joined-out}
 use borrow.Author.Needs.{needs}
 use Rattle.phase_sum_stepping.proofs.join_out.Statement.{statement}
 use Rattle.phase_sum_stepping.proofs.join_out.Tie as tie

@@ -9,9 +9,9 @@ use borrow.Author.Needs.{needs}
 use Rattle.amplitude.specs.Bits.{bit}
 use Rattle.amplitude.proofs.BitLaws.{bit-zero}
 use Rattle.phase_sum_meaning.specs.Phase.{term, inOdd}
-use Rattle.phase_sum_terms.specs.Workspace.{setOf, zipTerms, held}
-use Rattle.phase_sum_terms.proofs.Storing.{held-more}
-use Rattle.phase_sum_terms.proofs.Passes.{inOdd-more}
+use Rattle.phase_sum_types.specs.Workspace.{setOf, zipTerms, held}
+use Rattle.phase_sum_types.proofs.Storing.{held-more}
+use Rattle.phase_sum_types.proofs.Passes.{inOdd-more}
 use Rattle.phase_sum_stepping.proofs.odd_mask.Statement.{statement}
 use Rattle.phase_sum_stepping.proofs.odd_mask.Tie as tie
 

@@ -2,10 +2,10 @@
 -- Assumes nothing.
 use Rattle.phase_sum_meaning.specs.Parity.{of, replaceIn}
 use Rattle.phase_sum_meaning.specs.Stepping.{replace}
-use Rattle.phase_sum_terms.specs.Workspace.{setOf, parityOf, lent, sumOf}
-use Rattle.phase_sum_terms.proofs.Members.{members-without}
-use Rattle.phase_sum_terms.proofs.Changing.{became}
-use Rattle.phase_sum_terms.proofs.Passes.{rebuilt}
+use Rattle.phase_sum_types.specs.Workspace.{setOf, parityOf, lent, sumOf}
+use Rattle.phase_sum_types.proofs.Members.{members-without}
+use Rattle.phase_sum_types.proofs.Changing.{became}
+use Rattle.phase_sum_types.proofs.Passes.{rebuilt}
 use borrow.Author.Needs.{needs}
 use Rattle.phase_sum_stepping.proofs.replace.Statement.{statement}
 use Rattle.phase_sum_stepping.proofs.replace.Tie as tie

@@ -8,8 +8,8 @@ use native.Mathlib.Omega.{arith}
 use lib.ListN.{length, take}
 use denote.Ref.{now}
 use Rattle.phase_sum_meaning.specs.Parity.{of, replaceIn}
-use Rattle.phase_sum_terms.specs.Workspace.{zipWires, parityOf}
-use Rattle.phase_sum_terms.proofs.Passes.{Front, front-none, front-mapped, front-full, length-wires}
+use Rattle.phase_sum_types.specs.Workspace.{zipWires, parityOf}
+use Rattle.phase_sum_types.proofs.Passes.{Front, front-none, front-mapped, front-full, length-wires}
 use Rattle.phase_sum_stepping.proofs.replace_in_wires.Statement.{statement}
 use Rattle.phase_sum_stepping.proofs.replace_in_wires.Tie as tie
 

@@ -8,13 +8,13 @@ use lib.ListN.{length, getD}
 use borrow.Author.Needs.{needs}
 use Rattle.phase_sum_meaning.specs.Parity.{Parity, of, replaceIn}
 use Rattle.phase_sum_meaning.specs.Phase.{term, rebuild}
-use Rattle.phase_sum_terms.specs.Workspace.{zipTerms, held, parityOf}
-use Rattle.phase_sum_terms.specs.Unmerged.{phaseTerm}
-use Rattle.phase_sum_terms.specs.Inner.{sentTo}
-use Rattle.phase_sum_terms.specs.declared.Parity.{Parity as ParityWord}
-use Rattle.phase_sum_terms.proofs.Merging.{rebuild-constant}
-use Rattle.phase_sum_terms.proofs.Storing.{held-more}
-use Rattle.phase_sum_terms.proofs.Passes.{Passed, passed-none, passed-more, passed-all, front-next}
+use Rattle.phase_sum_types.specs.Workspace.{zipTerms, held, parityOf}
+use Rattle.phase_sum_types.specs.Unmerged.{phaseTerm}
+use Rattle.phase_sum_types.specs.Inner.{sentTo}
+use Rattle.phase_sum_types.specs.declared.Parity.{Parity as ParityWord}
+use Rattle.phase_sum_types.proofs.Merging.{rebuild-constant}
+use Rattle.phase_sum_types.proofs.Storing.{held-more}
+use Rattle.phase_sum_types.proofs.Passes.{Passed, passed-none, passed-more, passed-all, front-next}
 use Rattle.phase_sum_stepping.proofs.replace_unmerged.Statement.{statement}
 use Rattle.phase_sum_stepping.proofs.replace_unmerged.Tie as tie
 

@@ -5,10 +5,10 @@ use native.Mathlib.Omega.{arith}
 use denote.Ref.{now}
 use Rattle.phase_sum_meaning.specs.Parity.{of}
 use Rattle.phase_sum_meaning.specs.Stepping.{outOf, takeOut}
-use Rattle.phase_sum_terms.specs.Workspace.{setOf, held, slices, sumOf}
-use Rattle.phase_sum_terms.proofs.Members.{members-without}
-use Rattle.phase_sum_terms.proofs.Changing.{became}
-use Rattle.phase_sum_terms.proofs.Passes.{sent-constant, sent-stored, rebuilt}
+use Rattle.phase_sum_types.specs.Workspace.{setOf, held, slices, sumOf}
+use Rattle.phase_sum_types.proofs.Members.{members-without}
+use Rattle.phase_sum_types.proofs.Changing.{became}
+use Rattle.phase_sum_types.proofs.Passes.{sent-constant, sent-stored, rebuilt}
 use borrow.Author.Needs.{needs}
 use Rattle.phase_sum_stepping.proofs.take_out.Statement.{statement}
 use Rattle.phase_sum_stepping.proofs.take_out.Tie as tie

@@ -8,7 +8,7 @@ use native.Mathlib.Omega.{arith}
 use lib.ListN.{length, take}
 use borrow.Author.Needs.{needs}
 use Rattle.phase_sum_meaning.specs.Stepping.{outOf}
-use Rattle.phase_sum_terms.proofs.Passes.{Front, front-none, front-mapped, front-all}
+use Rattle.phase_sum_types.proofs.Passes.{Front, front-none, front-mapped, front-all}
 use Rattle.phase_sum_stepping.proofs.take_out_unmerged.Statement.{statement}
 use Rattle.phase_sum_stepping.proofs.take_out_unmerged.Tie as tie
 

@@ -5,11 +5,11 @@ use mathlib.Core.List.{[], _∷_}
 use native.Mathlib.Omega.{arith}
 use denote.Ref.{now}
 use Rattle.phase_sum_meaning.specs.Stepping.{takeOut, turned}
-use Rattle.phase_sum_terms.specs.Workspace.{setOf, slices, sumOf}
-use Rattle.phase_sum_terms.proofs.Members.{members-without}
-use Rattle.phase_sum_terms.proofs.Changing.{became}
-use Rattle.phase_sum_terms.proofs.Passes.{turned-out}
-use Rattle.phase_sum_terms.proofs.WireLaws.{stored-count}
+use Rattle.phase_sum_types.specs.Workspace.{setOf, slices, sumOf}
+use Rattle.phase_sum_types.proofs.Members.{members-without}
+use Rattle.phase_sum_types.proofs.Changing.{became}
+use Rattle.phase_sum_types.proofs.Passes.{turned-out}
+use Rattle.phase_sum_types.proofs.WireLaws.{stored-count}
 use borrow.Author.Needs.{needs}
 use Rattle.phase_sum_stepping.proofs.turn_out.Statement.{statement}
 use Rattle.phase_sum_stepping.proofs.turn_out.Tie as tie

@@ -3,8 +3,8 @@
 use mathlib.Core.Path.{_∙_}
 use lib.ListN.{length}
 use denote.Ref.{now}
-use Rattle.phase_sum_terms.specs.Unmerged.{gatesIn}
-use Rattle.phase_sum_terms.proofs.Changing.{sized-stands}
+use Rattle.phase_sum_types.specs.Unmerged.{gatesIn}
+use Rattle.phase_sum_types.proofs.Changing.{sized-stands}
 use Rattle.comparison_types.proofs.ClauseLaws.{built-sized, decided}
 use borrow.Author.Needs.{needs}
 use Rattle.comparison.proofs.comparing.decide_in.Statement.{statement}

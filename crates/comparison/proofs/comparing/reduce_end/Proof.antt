@@ -2,7 +2,7 @@
 -- Assumes nothing.
 use mathlib.Core.Path.{sym, ap}
 use mathlib.Core.Bool.{Bool}
-use Rattle.phase_sum_terms.specs.Workspace.{parityOf, lent}
+use Rattle.phase_sum_types.specs.Workspace.{parityOf, lent}
 use Rattle.comparison_meaning.specs.Reduction.{reduceEnd}
 use Rattle.comparison_types.specs.Inner.{endOf, blockedBy}
 use Rattle.comparison_types.proofs.VerdictLaws.{reduce-blocked}

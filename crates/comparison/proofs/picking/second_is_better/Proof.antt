@@ -5,7 +5,7 @@ use Prim.Native.Nat.{_<_}
 use borrow.Author.Needs.{needs}
 use native.Mathlib.Omega.{arith}
 use Rattle.amplitude.specs.Circuit.{tGates}
-use Rattle.phase_sum_terms.specs.Unmerged.{gatesIn}
+use Rattle.phase_sum_types.specs.Unmerged.{gatesIn}
 use Rattle.comparison_types.proofs.PickLaws.{better-fewer, better-more, better-shorter}
 use Rattle.comparison.proofs.picking.second_is_better.Statement.{statement}
 use Rattle.comparison.proofs.picking.second_is_better.Tie as tie

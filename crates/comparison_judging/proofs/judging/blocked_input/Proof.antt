@@ -9,7 +9,7 @@ use borrow.Author.Needs.{needs}
 use Rattle.phase_sum_meaning.specs.Sets.{firstIn, from}
 use Rattle.phase_sum_meaning.proofs.VariableLaws.{firstSuch-some, from-among}
 use Rattle.comparison_meaning.specs.Verdict.{blockedInput}
-use Rattle.phase_sum_terms.specs.Workspace.{setOf, foundOf}
+use Rattle.phase_sum_types.specs.Workspace.{setOf, foundOf}
 use Rattle.comparison_types.proofs.VerdictLaws.{lowest-below}
 use Rattle.comparison_judging.proofs.judging.blocked_input.Statement.{statement}
 use Rattle.comparison_judging.proofs.judging.blocked_input.Tie as tie

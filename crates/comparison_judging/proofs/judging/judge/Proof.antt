@@ -5,7 +5,7 @@ use native.Mathlib.Omega.{arith}
 use lib.ListN.{length}
 use lib.Dec.{eqb}
 use mathlib.Core.List.{[]}
-use Rattle.phase_sum_terms.specs.Workspace.{setOf, slices, members}
+use Rattle.phase_sum_types.specs.Workspace.{setOf, slices, members}
 use Rattle.comparison_meaning.specs.Verdict.{judge, searched}
 use Rattle.comparison_types.proofs.VerdictLaws.{members-empty}
 use borrow.Author.Needs.{needs}

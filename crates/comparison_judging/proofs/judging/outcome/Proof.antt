@@ -2,8 +2,8 @@
 -- Assumes nothing.
 use native.Mathlib.Omega.{arith}
 use borrow.Author.Needs.{needs}
-use Rattle.phase_sum_terms.specs.Workspace.{setOf}
-use Rattle.phase_sum_terms.proofs.Members.{members-few}
+use Rattle.phase_sum_types.specs.Workspace.{setOf}
+use Rattle.phase_sum_types.proofs.Members.{members-few}
 use Rattle.comparison_judging.proofs.judging.outcome.Statement.{statement}
 use Rattle.comparison_judging.proofs.judging.outcome.Tie as tie
 

@@ -6,8 +6,8 @@ use mathlib.Core.List.{List, []}
 use Prim.Native.Nat.{ℕ}
 use native.Mathlib.Omega.{arith}
 use denote.Ref.{now}
-use Rattle.phase_sum_terms.specs.Workspace.{slices}
-use Rattle.phase_sum_terms.specs.declared.Parity.{Parity as ParityWord}
+use Rattle.phase_sum_types.specs.Workspace.{slices}
+use Rattle.phase_sum_types.specs.declared.Parity.{Parity as ParityWord}
 use Rattle.comparison_meaning.specs.Reduction.{End}
 use Rattle.comparison_types.specs.Inner.{endOf, unblocked}
 use Rattle.comparison_types.proofs.VerdictLaws.{input-below, searched-uneven, searched-found, searched-none}

@@ -2,7 +2,7 @@
 -- Assumes nothing.
 use native.Mathlib.Omega.{arith}
 use borrow.Author.Needs.{needs}
-use Rattle.phase_sum_terms.proofs.Words.{shifted-one}
+use Rattle.phase_sum_types.proofs.Words.{shifted-one}
 use Rattle.comparison_judging.proofs.searching.only.Statement.{statement}
 use Rattle.comparison_judging.proofs.searching.only.Tie as tie
 

@@ -7,7 +7,7 @@ use native.Mathlib.Omega.{arith}
 use mathlib.Core.Option.{none}
 use lib.Pow.{pow-pos}
 use borrow.Author.Needs.{needs}
-use Rattle.phase_sum_terms.specs.Workspace.{phaseOf}
+use Rattle.phase_sum_types.specs.Workspace.{phaseOf}
 use Rattle.comparison_types.proofs.SearchLaws.{firstBeside, beside-start, pass-itself, pass-more, found-itself, found-more, answer-none, answer-found}
 use Rattle.comparison_judging.proofs.searching.weight_one.Statement.{statement}
 use Rattle.comparison_judging.proofs.searching.weight_one.Tie as tie

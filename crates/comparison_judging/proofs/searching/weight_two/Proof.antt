@@ -7,7 +7,7 @@ use native.Mathlib.Omega.{arith}
 use mathlib.Core.Option.{none}
 use lib.Pow.{pow-pos}
 use borrow.Author.Needs.{needs}
-use Rattle.phase_sum_terms.specs.Workspace.{phaseOf}
+use Rattle.phase_sum_types.specs.Workspace.{phaseOf}
 use Rattle.comparison_types.proofs.SearchLaws.{power-small, firstBeside, beside-start, pass-itself, pass-more, found-itself, found-more, answer-none, answer-found}
 use Rattle.comparison_judging.proofs.searching.weight_two.Statement.{statement}
 use Rattle.comparison_judging.proofs.searching.weight_two.Tie as tie

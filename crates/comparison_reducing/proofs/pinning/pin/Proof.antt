@@ -4,8 +4,8 @@ use Prim.Native.Nat.{_-_, _<_}
 use native.Mathlib.Omega.{arith}
 use lib.ListN.{length}
 use borrow.Author.Needs.{needs}
-use Rattle.phase_sum_terms.specs.Workspace.{Lent, lent, slices}
-use Rattle.phase_sum_terms.proofs.Running.{AsLong, long-after}
+use Rattle.phase_sum_types.specs.Workspace.{Lent, lent, slices}
+use Rattle.phase_sum_types.proofs.Running.{AsLong, long-after}
 use Rattle.comparison_types.proofs.PinLaws.{PinnedTo, none-pinned, more-pinned, pinned-blocked, all-pinned}
 use Rattle.comparison_reducing.proofs.pinning.pin.Statement.{statement}
 use Rattle.comparison_reducing.proofs.pinning.pin.Tie as tie

@@ -4,8 +4,8 @@ use mathlib.Core.Path.{_≡_, sym, ap, _∙_}
 use mathlib.Core.Option.{some}
 use native.Mathlib.Omega.{arith}
 use Rattle.phase_sum_meaning.specs.Sets.{firstIn}
-use Rattle.phase_sum_terms.specs.Workspace.{setOf, members, foundOf}
-use Rattle.phase_sum_terms.proofs.Changing.{sized-stands}
+use Rattle.phase_sum_types.specs.Workspace.{setOf, members, foundOf}
+use Rattle.phase_sum_types.proofs.Changing.{sized-stands}
 use Rattle.comparison_types.proofs.PinLaws.{found-below, pinned-found, pinned-free}
 use borrow.Author.Needs.{needs}
 use Rattle.comparison_reducing.proofs.pinning.pin_qubit.Statement.{statement}

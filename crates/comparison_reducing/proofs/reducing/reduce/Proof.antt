@@ -5,9 +5,9 @@ use mathlib.Core.Option.{some}
 use native.Mathlib.Omega.{arith}
 use lib.ListN.{length}
 use borrow.Author.Needs.{needs}
-use Rattle.phase_sum_terms.specs.Workspace.{Lent, setOf, members, lent, slices, foundOf}
-use Rattle.phase_sum_terms.proofs.Changing.{sized-stands}
-use Rattle.phase_sum_terms.proofs.Running.{AsLong, long-after}
+use Rattle.phase_sum_types.specs.Workspace.{Lent, setOf, members, lent, slices, foundOf}
+use Rattle.phase_sum_types.proofs.Changing.{sized-stands}
+use Rattle.phase_sum_types.proofs.Running.{AsLong, long-after}
 use Rattle.comparison_types.proofs.StepCases.{readyIn, ready-member, Going, going-starts, going-from, going-back, going-few, going-spent, going-idle, going-on, going-blocked}
 use Rattle.comparison_reducing.proofs.reducing.reduce.Statement.{statement}
 use Rattle.comparison_reducing.proofs.reducing.reduce.Tie as tie

@@ -5,8 +5,8 @@ use mathlib.Core.Bool.{true, false, true≢false}
 use Rattle.phase_sum_meaning.specs.Sets.{firstIn}
 use Rattle.phase_sum_meaning.specs.Building.{PathSum}
 use Rattle.phase_sum_meaning.specs.Stepping.{takeOut}
-use Rattle.phase_sum_terms.specs.Workspace.{setOf, lent, sumOf, foundOf}
-use Rattle.phase_sum_terms.proofs.Changing.{sized-stands}
+use Rattle.phase_sum_types.specs.Workspace.{setOf, lent, sumOf, foundOf}
+use Rattle.phase_sum_types.proofs.Changing.{sized-stands}
 use Rattle.comparison_meaning.specs.Reduction.{stepWith, stepAt}
 use Rattle.comparison_types.specs.Inner.{countsOf, stepTo, StepsTo, StepsAt}
 use Rattle.comparison_types.proofs.PinLaws.{found-below}

@@ -5,10 +5,10 @@ use Prim.Native.Nat.{_≤_}
 use native.Mathlib.Nat.{le-trans}
 use native.Mathlib.Omega.{arith}
 use denote.Ref.{now}
-use Rattle.phase_sum_terms.specs.Workspace.{sumOf, Sized, Became}
-use Rattle.phase_sum_terms.proofs.Members.{members-hold}
-use Rattle.phase_sum_terms.proofs.Changing.{roomIn, place-left, room-replace, room-takeOut, room-turned, sized-stands, still-sized}
-use Rattle.phase_sum_terms.proofs.Running.{AsLong}
+use Rattle.phase_sum_types.specs.Workspace.{sumOf, Sized, Became}
+use Rattle.phase_sum_types.proofs.Members.{members-hold}
+use Rattle.phase_sum_types.proofs.Changing.{roomIn, place-left, room-replace, room-takeOut, room-turned, sized-stands, still-sized}
+use Rattle.phase_sum_types.proofs.Running.{AsLong}
 use Rattle.comparison_meaning.specs.Reduction.{goes}
 use Rattle.comparison_types.specs.Inner.{countsOf, Goes, stepTo, StepsTo}
 use Rattle.comparison_types.proofs.StepCases.{kind-turn, kind-rest, sum-to, turn-to, join-to}

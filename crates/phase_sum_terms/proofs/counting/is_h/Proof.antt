@@ -1,7 +1,7 @@
 -- `phase_sum_terms::counting::is_h` meets its contract: a gate counts as an H by its kind byte.
 -- Assumes nothing.
 use borrow.Author.Tests.{eq-eqb, ne-eqb}
-use Rattle.phase_sum_terms.proofs.Tallying.{h-by-kind}
+use Rattle.phase_sum_types.proofs.Tallying.{h-by-kind}
 use Rattle.phase_sum_terms.proofs.counting.is_h.Statement.{statement}
 use Rattle.phase_sum_terms.proofs.counting.is_h.Tie as tie
 

@@ -1,7 +1,7 @@
 -- `phase_sum_terms::counting::is_t` meets its contract: a gate counts as a T by its kind byte, which is that of T or of its inverse.
 -- Assumes nothing.
 use borrow.Author.Tests.{eq-eqb, ne-eqb}
-use Rattle.phase_sum_terms.proofs.Tallying.{t-by-kind}
+use Rattle.phase_sum_types.proofs.Tallying.{t-by-kind}
 use Rattle.phase_sum_terms.proofs.counting.is_t.Statement.{statement}
 use Rattle.phase_sum_terms.proofs.counting.is_t.Tie as tie
 

@@ -4,8 +4,8 @@
 use native.Mathlib.Omega.{arith}
 use Prim.Native.Nat.{_-_}
 use lib.ListN.{length}
-use Rattle.phase_sum_terms.specs.Inner.{weightOf}
-use Rattle.phase_sum_terms.proofs.Tallying.{light, Counted, counted-none, counted-more, counted-all}
+use Rattle.phase_sum_types.specs.Inner.{weightOf}
+use Rattle.phase_sum_types.proofs.Tallying.{light, Counted, counted-none, counted-more, counted-all}
 use Rattle.phase_sum_terms.proofs.counting.tally_of.Statement.{statement}
 use Rattle.phase_sum_terms.proofs.counting.tally_of.Tie as tie
 

@@ -2,8 +2,8 @@
 -- Assumes nothing.
 use borrow.Author.Needs.{needs}
 use denote.Ref.{now}
-use Rattle.phase_sum_terms.specs.Workspace.{setOf}
-use Rattle.phase_sum_terms.proofs.Places.{stored-next}
+use Rattle.phase_sum_types.specs.Workspace.{setOf}
+use Rattle.phase_sum_types.proofs.Places.{stored-next}
 use Rattle.phase_sum_terms.proofs.terms.append.Statement.{statement}
 use Rattle.phase_sum_terms.proofs.terms.append.Tie as tie
 

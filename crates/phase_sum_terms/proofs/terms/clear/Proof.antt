@@ -5,7 +5,7 @@ use mathlib.Core.Path.{refl}
 use native.Mathlib.Omega.{arith}
 use mathlib.Core.List.{[]}
 use denote.Ref.{now}
-use Rattle.phase_sum_terms.proofs.Storing.{over-padded}
+use Rattle.phase_sum_types.proofs.Storing.{over-padded}
 use Rattle.phase_sum_terms.proofs.terms.clear.Statement.{statement}
 use Rattle.phase_sum_terms.proofs.terms.clear.Tie as tie
 

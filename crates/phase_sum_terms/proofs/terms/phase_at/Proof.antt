@@ -5,7 +5,7 @@ use mathlib.Core.Path.{_≡_, _∙_}
 use Prim.Native.Nat.{_-_, _%_, _≤_}
 use native.Mathlib.Omega.{arith}
 use denote.Ref.{now}
-use Rattle.phase_sum_terms.proofs.Places.{phaseSoFar, phaseSoFar-none, phaseSoFar-more, phaseSoFar-constant}
+use Rattle.phase_sum_types.proofs.Places.{phaseSoFar, phaseSoFar-none, phaseSoFar-more, phaseSoFar-constant}
 use Rattle.phase_sum_terms.proofs.terms.phase_at.Statement.{statement}
 use Rattle.phase_sum_terms.proofs.terms.phase_at.Tie as tie
 

@@ -6,7 +6,7 @@ use Prim.Native.Nat.{_-_, _≤_}
 use native.Mathlib.Omega.{arith}
 use lib.ListN.{length, length-set}
 use denote.Ref.{now}
-use Rattle.phase_sum_terms.proofs.Places.{filled, filled-none, filled-more}
+use Rattle.phase_sum_types.proofs.Places.{filled, filled-none, filled-more}
 use Rattle.phase_sum_terms.proofs.terms.zero_words.Statement.{statement}
 use Rattle.phase_sum_terms.proofs.terms.zero_words.Tie as tie
 

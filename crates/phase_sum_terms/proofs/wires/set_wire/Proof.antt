@@ -1,8 +1,8 @@
 -- `phase_sum_terms::wires::set_wire` meets its contract.
 -- Assumes nothing.
 use denote.Ref.{now}
-use Rattle.phase_sum_terms.specs.Workspace.{setOf}
-use Rattle.phase_sum_terms.proofs.WireLaws.{zip-set}
+use Rattle.phase_sum_types.specs.Workspace.{setOf}
+use Rattle.phase_sum_types.proofs.WireLaws.{zip-set}
 use borrow.Author.Needs.{needs}
 use Rattle.phase_sum_terms.proofs.wires.set_wire.Statement.{statement}
 use Rattle.phase_sum_terms.proofs.wires.set_wire.Tie as tie

@@ -1,7 +1,7 @@
 -- `phase_sum_terms::wires::wire` meets its contract.
 -- Assumes nothing.
 use denote.Ref.{now}
-use Rattle.phase_sum_terms.proofs.WireLaws.{zip-at}
+use Rattle.phase_sum_types.proofs.WireLaws.{zip-at}
 use borrow.Author.Needs.{needs}
 use Rattle.phase_sum_terms.proofs.wires.wire.Statement.{statement}
 use Rattle.phase_sum_terms.proofs.wires.wire.Tie as tie

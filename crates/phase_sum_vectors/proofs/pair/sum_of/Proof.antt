@@ -8,7 +8,7 @@ use lib.Seq.{length-take-le}
 use borrow.Author.Tests.{not-false}
 use Rattle.amplitude.specs.Circuit.{hGates}
 use Rattle.phase_sum_meaning.specs.Room.{mostVariables}
-use Rattle.phase_sum_terms.proofs.Acceptance.{gates-of-part, buildable}
+use Rattle.phase_sum_types.proofs.Acceptance.{gates-of-part, buildable}
 use borrow.Author.Needs.{needs}
 use Rattle.phase_sum_vectors.proofs.pair.sum_of.Statement.{statement}
 use Rattle.phase_sum_vectors.proofs.pair.sum_of.Tie as tie
