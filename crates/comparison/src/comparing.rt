@@ -10,8 +10,8 @@ ghost use Rattle.comparison_types.specs.Inner.{CountedTo, ReducesEnd, answerOf,
 use comparison_checking::PLACES;
 use comparison_checking::check_call;
 use comparison_judging::judging::judge;
-use comparison_reducing::pinning::pin;
-use comparison_reducing::reducing::reduce;
+use comparison_pinning::pin;
+use comparison_reducing::reduce;
 use comparison_types::Answer;
 use comparison_types::Comparison;
 use comparison_types::End;

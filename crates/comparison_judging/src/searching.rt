@@ -10,8 +10,8 @@ ghost use Rattle.phase_sum_meaning.specs.Phase.{phaseAt};
 ghost use Rattle.comparison_meaning.specs.Verdict.{weight, candidates, firstDiffering};
 ghost use Rattle.phase_sum_types.specs.Workspace.{phaseOf};
 ghost use Rattle.comparison_types.specs.Inner.{inputOf};
+use phase_sum_reading::odd_mask;
 use phase_sum_sets::is_empty;
-use phase_sum_stepping::odd_mask;
 use phase_sum_terms::terms::phase_at;
 use phase_sum_types::Phase;
 

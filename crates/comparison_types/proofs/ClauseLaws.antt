@@ -35,7 +35,6 @@ use Rattle.comparison_meaning.proofs.Bytes.{demands-pair}
 use Rattle.comparison_types.specs.Call.{Said, says, refuses, numberOf, resultOf, saidOf, pairRows, workspaceRows, pairFault, compareRead, unlessFault, comparison}
 use Rattle.comparison_types.specs.Clauses.{ForResult, Sound, Stops, Inputs, Clifford, CountsUp}
 use Rattle.comparison_types.specs.Inner.{AcceptedWith, numberIn, pairNumber, PairRead}
-use Rattle.comparison_types.specs.declared.Verdict.{Verdict}
 use Rattle.comparison_types.specs.declared.Outcome.{Outcome}
 use Rattle.comparison_types.specs.declared.Refusal.{Refusal}
 use Rattle.comparison_types.specs.declared.Answer.{Answer}

@@ -1,17 +1,18 @@
-// The phase-sum layer, gates: what one gate does to the wires and the terms. Document 01, "Building the sum". The wires are two lent slices,
-// sets and constant bits, one place a qubit, changed in place; the terms are put one behind the other.
+// The phase-sum layer, gates: what a gate that is more than a move of wires does to the wires and the terms. Document 01, "Building the sum".
+// The wires are two lent slices, sets and constant bits, one place a qubit, changed in place; the terms are put one behind the other.
 ghost use mathlib.Core.Path.{_≡_};
 ghost use Prim.Native.Nat.{ℕ, _+_, _<_, _≤_};
-ghost use mathlib.Core.Bool.{true, false};
+ghost use mathlib.Core.Bool.{false};
 ghost use mathlib.Core.List.{[], _∷_};
 ghost use lib.ListN.{length};
-ghost use Rattle.record_format.specs.Gate.{Within, gateOf, raw, one, two, X, Y, CX, CZ, SWAP};
+ghost use Rattle.record_format.specs.Gate.{gateOf, raw, one, two, X, Y, CZ};
 ghost use Rattle.phase_sum_meaning.specs.Parity.{_⊕_};
 ghost use Rattle.phase_sum_meaning.specs.Building.{PathSum, productBy};
-ghost use Rattle.phase_sum_types.specs.Workspace.{phaseOf, Phased, alone, parityOf, zipWires, lent, before, after};
-ghost use Rattle.phase_sum_types.specs.Unmerged.{putBehind, appendGate, sumIn, Runnable, Leaves, Runs, movesOnly, Moves};
+ghost use Rattle.phase_sum_types.specs.Workspace.{phaseOf, Phased, alone, parityOf, lent, before, after};
+ghost use Rattle.phase_sum_types.specs.Unmerged.{putBehind, appendGate, sumIn, Runnable, Leaves, Runs, movesOnly};
 ghost use Rattle.phase_sum_types.specs.Inner.{onH, appendPhase};
-use phase_sum_sets::exclusive_or;
+use phase_sum_moving::both;
+use phase_sum_moving::flip_wire;
 use phase_sum_sets::single;
 use phase_sum_terms::terms::add;
 use phase_sum_terms::terms::append;
@@ -22,16 +23,6 @@ use phase_sum_types::Parity;
 use phase_sum_types::Phase;
 use phase_sum_types::Run;
 use record_format::gate;
-
-// The exclusive or of two wires.
-pub fn both(u: Parity, v: Parity) -> Parity
-    ensures { λ r. ⌜ parityOf r ≡ parityOf u ⊕ parityOf v ⌝ }
-{
-    Parity {
-        set: exclusive_or(u.set, v.set),
-        flipped: u.flipped != v.flipped,
-    }
-}
 
 // A phase c on a wire, as one term more: on a complemented parity, c to the constant and the term −c.
 pub fn put_phase(phase: Phase, c: u8, w: Parity, sets: &mut [u64], coeffs: &mut [u8]) -> Phase
@@ -59,65 +50,6 @@ pub fn put_product(phase: Phase, u: Parity, v: Parity, sets: &mut [u64], coeffs:
     let once = put_phase(phase, 2, u, sets, coeffs);
     let twice = put_phase(once, 2, v, sets, coeffs);
     put_phase(twice, 6, both(u, v), sets, coeffs)
-}
-
-// X: wire q complemented.
-fn flip_wire(ws: &[u64], fs: &mut [bool], q: usize)
-    requires { ⌜ (q < length (now ws)) × (q < length (now fs)) ⌝ }
-    ensures { λ _. ⌜ Moves (one X q) (zipWires (now (ws .entry)) (now (fs .entry))) (zipWires (now (ws .entry)) (now (fs .exit))) ⌝ }
-{
-    fs[q] = !fs[q];
-}
-
-// CX: the control added to the target.
-fn add_wire(ws: &mut [u64], fs: &mut [bool], control: usize, target: usize)
-    requires { ⌜ (control < length (now ws)) × (target < length (now ws)) × (length (now fs) ≡ length (now ws)) ⌝ }
-    ensures { λ _. ⌜ Moves (two CX control target) (zipWires (now (ws .entry)) (now (fs .entry))) (zipWires (now (ws .exit)) (now (fs .exit))) ⌝ }
-{
-    let sum = both(wire(ws, fs, target), wire(ws, fs, control));
-    set_wire(ws, fs, target, sum);
-}
-
-// SWAP: two wires exchanged.
-fn swap_wires(ws: &mut [u64], fs: &mut [bool], a: usize, b: usize)
-    requires { ⌜ (a < length (now ws)) × (b < length (now ws)) × (length (now fs) ≡ length (now ws)) ⌝ }
-    ensures { λ _. ⌜ Moves (two SWAP a b) (zipWires (now (ws .entry)) (now (fs .entry))) (zipWires (now (ws .exit)) (now (fs .exit))) ⌝ }
-{
-    let first = wire(ws, fs, a);
-    let second = wire(ws, fs, b);
-    set_wire(ws, fs, a, second);
-    set_wire(ws, fs, b, first);
-}
-
-// Does the gate only move wires: X, CX, SWAP?
-pub fn moves(kind: u8) -> bool
-    ensures { λ r. ⌜ ((a b : ℕ) → r ≡ movesOnly (gateOf (raw kind a b))) ⌝ }
-{
-    if kind == gate::X {
-        return true;
-    }
-    if kind == gate::CX {
-        return true;
-    }
-    kind > gate::CZ
-}
-
-// A gate that only moves wires, given by its three bytes.
-pub fn move_wires(kind: u8, a: u8, b: u8, ws: &mut [u64], fs: &mut [bool])
-    requires { ⌜ (movesOnly (gateOf (raw kind a b)) ≡ true) × Within (length (now ws)) (gateOf (raw kind a b)) × (length (now fs) ≡ length (now ws)) ⌝ }
-    ensures { λ _. ⌜ Moves (gateOf (raw kind a b)) (zipWires (now (ws .entry)) (now (fs .entry))) (zipWires (now (ws .exit)) (now (fs .exit))) ⌝ }
-{
-    let p = a as usize;
-    let q = b as usize;
-    if kind == gate::X {
-        flip_wire(ws, fs, p);
-        return;
-    }
-    if kind == gate::CX {
-        add_wire(ws, fs, p, q);
-        return;
-    }
-    swap_wires(ws, fs, p, q);
 }
 
 // The coefficient of Z, S, T and the inverses of S and T.

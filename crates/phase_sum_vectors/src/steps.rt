@@ -186,9 +186,9 @@ fn ask(phase: Phase, r: Row, sets: &[u64], coeffs: &[u8]) {
     let function = r.function;
     let v = (r.variable % 64) as u32;
     match function {
-        row::ODD_MASK => print::set(phase_sum_stepping::odd_mask(sets, coeffs, count)),
+        row::ODD_MASK => print::set(phase_sum_reading::odd_mask(sets, coeffs, count)),
         row::HALVES => {
-            let h = phase_sum_stepping::halves_of(sets, coeffs, count, v);
+            let h = phase_sum_reading::halves_of(sets, coeffs, count, v);
             print::number(print::wide(h.c));
             print::set(h.l);
         }

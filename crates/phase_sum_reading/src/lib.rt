@@ -1,0 +1,95 @@
+// The phase-sum layer, reading: what a step goes by, namely which variables are in terms of odd coefficient, and the C and L of a variable.
+// Document 01, "Reducing it".
+ghost use mathlib.Core.Path.{_≡_};
+ghost use Prim.Native.Nat.{ℕ, _+_, _/_, _%_, _<_, _≤_};
+ghost use mathlib.Core.Bool.{cond};
+ghost use lib.ListN.{length};
+ghost use lib.Dec.{eqb};
+ghost use Rattle.amplitude.specs.Bits.{bit};
+ghost use Rattle.phase_sum_meaning.specs.Parity.{of};
+ghost use Rattle.phase_sum_meaning.specs.Phase.{inOdd};
+ghost use Rattle.phase_sum_meaning.specs.Stepping.{outOf, halfSum, oddHalves};
+ghost use Rattle.phase_sum_meaning.specs.Room.{mostVariables};
+ghost use Rattle.phase_sum_types.specs.Workspace.{setOf, held};
+use phase_sum_sets::empty;
+use phase_sum_sets::exclusive_or;
+use phase_sum_sets::holds;
+use phase_sum_sets::load;
+use phase_sum_sets::union;
+use phase_sum_sets::without;
+use phase_sum_terms::terms::add;
+use phase_sum_types::Set;
+
+// A term's set where its coefficient is odd, else the empty set.
+fn odd_set(set: Set, coeff: u8) -> Set
+    ensures { λ r. ⌜ setOf r ≡ cond (eqb (coeff % 2) 1) (setOf set) 0 ⌝ }
+{
+    if coeff % 2 == 1 {
+        return set;
+    }
+    empty()
+}
+
+// The variables that are in terms of odd coefficient.
+pub fn odd_mask(sets: &[u64], coeffs: &[u8], count: usize) -> Set
+    requires { ⌜ (count ≤ length (now sets)) × (count ≤ length (now coeffs)) ⌝ }
+    ensures { λ r. ⌜ ((v : ℕ) → bit v (setOf r) ≡ inOdd v (held count (now (sets .entry)) (now (coeffs .entry)))) ⌝ }
+{
+    let mut mask = empty();
+    let mut i = 0;
+    while i < count {
+        mask = union(mask, odd_set(load(sets, i), coeffs[i]));
+        i += 1;
+    }
+    mask
+}
+
+// The C and L of a variable y: document 01, "Reducing it".
+pub struct Halves {
+    pub c: u8,
+    pub l: Set,
+}
+
+// A term's coefficient where it holds y, else 0.
+fn coeff_with(set: Set, coeff: u8, y: u32) -> u8
+    requires { ⌜ y < mostVariables ⌝ }
+    ensures { λ r. ⌜ r ≡ cond (bit y (setOf set)) coeff 0 ⌝ }
+{
+    if holds(set, y) {
+        return coeff;
+    }
+    0
+}
+
+// A term's set without y where it holds y and its half coefficient is odd, else the empty set.
+fn odd_half(set: Set, coeff: u8, y: u32) -> Set
+    requires { ⌜ y < mostVariables ⌝ }
+    ensures { λ r. ⌜ setOf r ≡ cond (bit y (setOf set)) (cond (eqb (coeff / 2 % 2) 1) (outOf y (setOf set)) 0) 0 ⌝ }
+{
+    if holds(set, y) {
+        if coeff / 2 % 2 == 1 {
+            return without(set, y);
+        }
+        return empty();
+    }
+    empty()
+}
+
+// C: half the sum of the coefficients of the terms that hold y, mod 4. L: the exclusive or of their sets without y, over those
+// whose half coefficient is odd.
+pub fn halves_of(sets: &[u64], coeffs: &[u8], count: usize, y: u32) -> Halves
+    requires { ⌜ (y < mostVariables) × (count ≤ length (now sets)) × (count ≤ length (now coeffs)) ⌝ }
+    ensures c { λ r. ⌜ r .c ≡ halfSum y (held count (now (sets .entry)) (now (coeffs .entry))) ⌝ }
+    ensures l { λ r. ⌜ setOf (r .l) ≡ oddHalves y (held count (now (sets .entry)) (now (coeffs .entry))) ⌝ }
+{
+    let mut sum = 0;
+    let mut l = empty();
+    let mut i = 0;
+    while i < count {
+        let set = load(sets, i);
+        sum = add(sum, coeff_with(set, coeffs[i], y));
+        l = exclusive_or(l, odd_half(set, coeffs[i], y));
+        i += 1;
+    }
+    Halves { c: sum / 2, l }
+}
