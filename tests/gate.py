@@ -47,13 +47,14 @@ COUNT = "5 passed, 0 failed"
 PIPES = {"stdin": subprocess.DEVNULL, "stdout": subprocess.PIPE, "stderr": subprocess.DEVNULL}
 
 
-def run_gate(folder, ci, failing=None):
-    """(status, lines) of the gate where rt ci is this piece of shell and one test may fail; each test prints a line."""
+def run_gate(folder, ci, failing=None, jobs="2", processors="exit 9"):
+    """(status, lines) of the gate where rt ci and nproc are these pieces of shell and one test may fail; each test prints a line."""
     for test in TESTS:
         name = test.split()[0]
         put(folder, f"tests/{name}", f"import sys\nprint('ran', {name!r}, *sys.argv[1:])\nsys.exit({int(test == failing)})\n")
     put(folder, "tools/rt", f'#!/bin/sh\n[ "$*" = ci ] || exit 9\n{ci}\n', 0o755)
-    env = dict(os.environ, PATH=os.path.join(folder, "tools") + ":" + os.environ["PATH"])
+    put(folder, "tools/nproc", f"#!/bin/sh\n{processors}\n", 0o755)
+    env = dict(os.environ, PATH=os.path.join(folder, "tools") + ":" + os.environ["PATH"], RT_JOBS=jobs)
     done = subprocess.run([os.path.join(folder, ".ci/run")], env=env, timeout=SECONDS, **PIPES)
     return done.returncode, done.stdout.decode().splitlines()
 
@@ -64,6 +65,9 @@ def try_gate(folder):
     shutil.copy(os.path.join(ROOT, ".ci", "run"), os.path.join(folder, ".ci"))
     got = run_gate(folder, f"echo one; echo two; echo '{COUNT}'")
     trial("gate, all pass", got == (0, ["one", "two", *(f"ran {test}" for test in TESTS), COUNT]), got)
+    for jobs, processors, want in (("3", "echo 7", "3"), ("", "echo 7", "14"), ("", "exit 1", "2")):
+        _, lines = run_gate(folder, f"echo $RT_JOBS; echo '{COUNT}'", None, jobs, processors)
+        trial(f"gate, RT_JOBS '{jobs}' with {processors}", lines[:1] == [want], lines)
     for test in TESTS:
         status, lines = run_gate(folder, f"echo '{COUNT}'", test)
         trial(f"gate, {test} fails", status == 1 and COUNT not in lines and f"gate: tests/{test.split()[0]} failed" == lines[-1], lines)
