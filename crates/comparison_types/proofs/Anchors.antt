@@ -12,8 +12,7 @@ use Rattle.record_format.specs.Row.{first}
 use Rattle.record_format.specs.Reading.{accepted}
 use Rattle.amplitude.specs.Circuit.{tally}
 use Rattle.comparison_meaning.specs.Verdict.{equal, different, undecided, number}
-use Rattle.comparison_types.specs.Call.{verdictNumber, verdictOf, workspaceRows, pairFault, refuses, leftBy, theSecond, pickedAt}
-use Rattle.comparison_types.specs.Inner.{numberIn}
+use Rattle.comparison_types.specs.Call.{verdictNumber, verdictOf, workspaceRows, pairFault, PairFault, ofPair, refuses, leftBy, theSecond, pickedAt}
 use Rattle.comparison_types.specs.declared.Verdict.{Verdict}
 use Rattle.comparison_types.specs.declared.Verdict.the-variants.{Equal, Different, Undecided}
 
@@ -37,25 +36,25 @@ verdict-known Undecided = omega arith
 abbrev hadamards : ℕ → List Gate
 hadamards k = replicate k (one H 0)
 
--- the number that two lists on 16 qubits are refused by, if any, in workspaces of w and c places
-abbrev refusedBy : ℕ → ℕ → ℕ → ℕ → Option ℕ
-refusedBy h k w c = numberIn (pairFault (accepted 16 (hadamards h)) (accepted 16 (hadamards k)) (workspaceRows w c))
+-- the fault that two lists on 16 qubits are refused by, if any, in workspaces of w and c places
+abbrev refusedBy : ℕ → ℕ → ℕ → ℕ → Option PairFault
+refusedBy h k w c = pairFault (accepted 16 (hadamards h)) (accepted 16 (hadamards k)) (workspaceRows w c)
 
 -- document 01's limits: 48 H gates pass on 16 qubits, in whichever list, and 49 get 9
 pub h-limit :
     (refusedBy 48 0 3136 3136 ≡ none)
-    × ((refusedBy 20 28 3136 3136 ≡ none) × ((refusedBy 49 0 3136 3136 ≡ some 9) × (refusedBy 20 29 3136 3136 ≡ some 9)))
+    × ((refusedBy 20 28 3136 3136 ≡ none) × ((refusedBy 49 0 3136 3136 ≡ some (ofPair 9)) × (refusedBy 20 29 3136 3136 ≡ some (ofPair 9))))
 unfolding pairFault first tally
 h-limit = (refl, (refl, (refl, refl)))
 
 -- 3,136 places pass, 3,135 of either workspace get 10, behind 9
 pub places-limit :
-    (refusedBy 0 0 3135 3136 ≡ some 10) × ((refusedBy 0 0 3136 3135 ≡ some 10) × (refusedBy 49 0 0 0 ≡ some 9))
+    (refusedBy 0 0 3135 3136 ≡ some (ofPair 10)) × ((refusedBy 0 0 3136 3135 ≡ some (ofPair 10)) × (refusedBy 49 0 0 0 ≡ some (ofPair 9)))
 unfolding pairFault first tally
 places-limit = (refl, (refl, refl))
 
 -- a refused call leaves a workspace as it was
-pub refused-leaves : leftBy (refuses 8) (1 ∷ 2 ∷ []) ≡ 1 ∷ 2 ∷ []
+pub refused-leaves : leftBy (refuses (ofPair 8)) (1 ∷ 2 ∷ []) ≡ 1 ∷ 2 ∷ []
 refused-leaves = refl
 
 -- the second record is handed back where the caller has it

@@ -14,7 +14,6 @@ use lib.Dec.{ltb}
 use borrow.Author.Tests.{ltb-false}
 use Rattle.record_format.specs.Format.{headSize, gateSize}
 use Rattle.record_format.specs.Gate.{Gate, inverseList}
-use Rattle.record_format.specs.Row.{Fault}
 use Rattle.record_format.specs.Reading.{accepted, read}
 use Rattle.record_format.proofs.Rows.{none-holds}
 use Rattle.amplitude.specs.Circuit.{tally, hGates}
@@ -32,9 +31,9 @@ use Rattle.comparison_meaning.specs.Reduction.{pinned, reduceEnd}
 use Rattle.comparison_meaning.specs.Verdict.{Result, equal, different, miter, judge, compare}
 use Rattle.comparison_meaning.specs.Demands.{Accepted, Demands, EqualIsRight, DifferentIsRight, ByTheSteps, InputsOnlyIfDifferent, CliffordIsDecided, CountsAddUp, StepsWithinHGates}
 use Rattle.comparison_meaning.proofs.Bytes.{demands-pair}
-use Rattle.comparison_types.specs.Call.{Said, says, refuses, numberOf, resultOf, saidOf, pairRows, workspaceRows, pairFault, compareRead, unlessFault, comparison}
+use Rattle.comparison_types.specs.Call.{PairFault, says, refuses, faultOf, resultOf, saidOf, pairRows, workspaceRows, pairFault, compareRead, unlessFault, comparison}
 use Rattle.comparison_types.specs.Clauses.{ForResult, Sound, Stops, Inputs, Clifford, CountsUp}
-use Rattle.comparison_types.specs.Inner.{AcceptedWith, numberIn, pairNumber, PairRead}
+use Rattle.comparison_types.specs.Inner.{AcceptedWith, foundFault, PairRead}
 use Rattle.comparison_types.specs.declared.Outcome.{Outcome}
 use Rattle.comparison_types.specs.declared.Refusal.{Refusal}
 use Rattle.comparison_types.specs.declared.Answer.{Answer}
@@ -78,25 +77,13 @@ pub decided :
 unfolding compare
 decided n k gs hs built same pins reduces judges = rw (judges, reduces, pins, same, built)
 
--- where the checks find no number, no row of the table holds
-no-fault : (o : Option Fault) → none ≡ numberIn o → o ≡ none
-no-fault none e = refl
-no-fault (some f) e = let z : _≡_ {A = ℕ} 0 1 = cc in absurd (omega arith)
-
--- where they find one, the call is refused with it
-number-said : (k : ℕ) (o : Option Fault) (said : Said) → some k ≡ numberIn o → refuses k ≡ unlessFault o said
-number-said k none said e = let z : _≡_ {A = ℕ} 0 1 = cc in absurd (omega arith)
-number-said k (some f) said e = cc
-
 -- where the checks answer a refusal, that is said of the pair
 pub refusal-said :
     (s t : List ℕ) (w c : ℕ) {k : Refusal} {r : PairCheck} →
-    pairNumber r ≡ numberIn (pairFault (read s) (read t) (workspaceRows w c)) →
+    foundFault r ≡ pairFault (read s) (read t) (workspaceRows w c) →
     r ≡ PairCheck.Refused k →
-    refuses (numberOf k) ≡ comparison s t w c
-refusal-said s t w c {k} number refused =
-    let fault = pairFault (read s) (read t) (workspaceRows w c) in
-    number-said (numberOf k) fault (compareRead (read s) (read t)) (sym (ap pairNumber refused) ∙ number)
+    refuses (faultOf k) ≡ comparison s t w c
+refusal-said s t w c found refused = rw (← found, refused)
 
 -- a pair that the checks let pass: two accepted lists on n qubits, of g and h gates, with at most 64 variables, and workspaces with all
 -- their places
@@ -116,17 +103,17 @@ neither false b e = (refl, e)
 -- where the checks answer n, g and h, the pair passes
 pub pair-passes :
     (s t ss cs : List ℕ) {n g h : ℕ} {r : PairCheck} →
-    pairNumber r ≡ numberIn (pairFault (read s) (read t) (workspaceRows (length ss) (length cs))) →
+    foundFault r ≡ pairFault (read s) (read t) (workspaceRows (length ss) (length cs)) →
     PairRead r s t →
     r ≡ Good n g h →
     Passed s t ss cs n g h
 unfolding pairFault compareRead
-pair-passes s t ss cs {n} {g} {h} {r} number lists good =
+pair-passes s t ss cs {n} {g} {h} {r} found lists good =
     let (list, other) : AcceptedWith n g s × AcceptedWith n h t = rw good at lists in
     let gs = list .gates in
     let hs = other .gates in
     let below = workspaceRows (length ss) (length cs) in
-    let fault = no-fault (pairFault (read s) (read t) below) (sym (ap pairNumber good) ∙ number) in
+    let fault : pairFault (read s) (read t) below ≡ none = sym found ∙ ap foundFault good in
     let rows = none-holds (pairRows n n gs hs ++ below) .0 (rw (list .reads, other .reads) at fault) in
     let sizes = neither (ltb (length ss) places) (ltb (length cs) places) (rows .1 .1 .0) in
     record {
@@ -177,7 +164,7 @@ module _ (s t : List ℕ) (w c : ℕ) (a : Answer) (said : saidOf a ≡ comparis
       go (resultOf o) (compare 0 n first second) (pairFault (accepted n first) (accepted n second) (workspaceRows w c))
       (rw (pair .reads-first, pair .reads-second) at (sym (ap saidOf is) ∙ said))
     where
-      go : (x y : Result) (f : Option Fault) → says x ≡ unlessFault f (says y) → x ≡ y
+      go : (x y : Result) (f : Option PairFault) → says x ≡ unlessFault f (says y) → x ≡ y
       go x y none e = cc
       go x y (some f) e = let z : _≡_ {A = ℕ} 0 1 = cc in absurd (omega arith)
 

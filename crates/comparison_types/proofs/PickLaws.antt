@@ -21,7 +21,7 @@ use Rattle.amplitude.proofs.Linear.{ω^-zero}
 use Rattle.phase_sum_types.specs.Unmerged.{gatesIn}
 use Rattle.comparison_meaning.specs.Demands.{Accepted, SomePower}
 use Rattle.comparison_meaning.specs.Verdict.{Result}
-use Rattle.comparison_types.specs.Call.{numberOf, Said, says, refuses, verdictOf, resultOf, saidOf, workspaceRows, pairFault, compareRead, unlessFault, comparison, leftBy, better, Choice, theFirst, theSecond, nothing, isEqual, choice, picked, ownBytes, pickedPart, pickedAt}
+use Rattle.comparison_types.specs.Call.{PairFault, ofPair, faultOf, Said, says, refuses, verdictOf, resultOf, saidOf, workspaceRows, pairFault, compareRead, unlessFault, comparison, leftBy, better, Choice, theFirst, theSecond, nothing, isEqual, choice, picked, ownBytes, pickedPart, pickedAt}
 use Rattle.comparison_types.specs.Clauses.{Sound, PickIsRight, EmptyIfRefused}
 use Rattle.comparison_types.specs.Inner.{AcceptedWith, ComparedRead}
 use Rattle.comparison_types.specs.declared.Verdict.{Verdict}
@@ -152,7 +152,7 @@ is-equal Undecided h = let z : _≡_ {A = ℕ} 0 1 = cc in absurd (omega arith)
 
 -- two lists on other numbers of qubits are refused
 other-qubits : (n m w c : ℕ) (gs hs : List Gate) (a : Said) → eqb n m ≡ false
-    → unlessFault (pairFault (accepted n gs) (accepted m hs) (workspaceRows w c)) a ≡ refuses 8
+    → unlessFault (pairFault (accepted n gs) (accepted m hs) (workspaceRows w c)) a ≡ refuses (ofPair 8)
 unfolding pairFault first
 other-qubits n m w c gs hs a other = rw other
 
@@ -186,13 +186,13 @@ module _ (s t : List ℕ) (w c : ℕ) where
       rw (compared, pair .reads-first, pair .reads-second, same) (choice-by r n n gs hs)
 
   -- of a refused pair it takes nothing
-  picked-nothing : (k : ℕ) → comparison s t w c ≡ refuses k → picked s t w c ≡ nothing
+  picked-nothing : (f : PairFault) → comparison s t w c ≡ refuses f → picked s t w c ≡ nothing
   unfolding choice
-  picked-nothing k refuses-it = rw refuses-it
+  picked-nothing f refuses-it = rw refuses-it
 
   -- so where the answer is a refusal
   pub picked-refused : (a : Answer) (r : Refusal) → saidOf a ≡ comparison s t w c → a ≡ Refused r → picked s t w c ≡ nothing
-  picked-refused a r said is = picked-nothing (numberOf r) (sym said ∙ ap saidOf is)
+  picked-refused a r said is = picked-nothing (faultOf r) (sym said ∙ ap saidOf is)
 
   module _ (a : Answer) (said : saidOf a ≡ comparison s t w c) (sound : Sound s t a) where
     -- equal is said only where some power of ω carries the pair
@@ -234,11 +234,11 @@ module _ (s t : List ℕ) (w c : ℕ) where
 
   -- and empty exactly where the comparison refuses
   empty : EmptyIfRefused s t w c (pickedPart (picked s t w c) s t)
-  empty = (refusing (comparison s t w c) refl, λ (k, e). rw (picked-nothing k e))
+  empty = (refusing (comparison s t w c) refl, λ (f, e). rw (picked-nothing f e))
     where
       refusing : (a : Said) → comparison s t w c ≡ a → pickedPart (picked s t w c) s t ≡ []
-          → (k : ℕ) × (comparison s t w c ≡ refuses k)
-      refusing (refuses k) e none-left = (k, e)
+          → (f : PairFault) × (comparison s t w c ≡ refuses f)
+      refusing (refuses f) e none-left = (f, e)
       refusing (says r) e none-left =
           let (n, gs, hs, pair) = accepted-pair r e in
           let b = isEqual (r .verdict) && better gs hs in

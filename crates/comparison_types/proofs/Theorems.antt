@@ -3,24 +3,37 @@
 use mathlib.Core.Path.{_≡_, refl, sym, ap, _∙_}
 use Prim.Native.Nat.{ℕ}
 use native.Mathlib.Omega.{arith}
-use mathlib.Core.Option.{Option, none, some}
-use mathlib.Core.List.{List, _++_}
-use Rattle.record_format.specs.Row.{Fault, Row, first}
-use Rattle.record_format.specs.Reading.{qubits, gates, recordRows, accepted, unless, read}
-use Rattle.record_format.specs.Promises.{NoneHolds, FirstHolds}
-use Rattle.record_format.proofs.Rows.{none-holds, first-holds, first-none, first-some, none-left, none-right}
-use Rattle.record_format.proofs.Theorems.{accepted-by-no-row}
+use mathlib.Core.Bool.{Bool, true, false, cond, true≢false}
+use mathlib.Core.Option.{Option, none, some, Option·map, map-eq-none-iff}
+use mathlib.Core.List.{List, _++_, map}
+use lib.Dec.{eqb}
+use Rattle.record_format.specs.Gate.{Gate}
+use Rattle.record_format.specs.Row.{Fault, Row, told, first}
+use Rattle.record_format.specs.Reading.{Reading, qubits, gates, recordRows, accepted, refused, unless, read}
+use Rattle.record_format.specs.Promises.{NoneHolds}
+use Rattle.record_format.proofs.Rows.{none-holds, first-holds, first-none, first-some, none-left, none-right, first-is, first-told}
+use Rattle.record_format.proofs.Theorems.{accepted-by-no-row, refusalOf, refusal-back}
 use Rattle.comparison_meaning.specs.Verdict.{Result, compare}
-use Rattle.comparison_types.specs.Call.{says, refuses, pairRows, workspaceRows, pairFault, compareRead, comparison}
-use Rattle.comparison_types.specs.Promises.{callRows, PairRefusedByFirstRow, PairAcceptedByNoRow}
+use Rattle.comparison_types.specs.Call.{PairFault, inFirst, inSecond, ofPair, faultOf, says, refuses, pairRows, workspaceRows, pairFault, compareRead, unlessFault, comparison}
+use Rattle.comparison_types.specs.Promises.{callRows, PairRefusedByFirstRow, PairAcceptedByNoRow, FirstListsFault, SecondListsFault, PairFaultTells}
+use Rattle.comparison_types.specs.declared.Refusal.{Refusal}
+use Rattle.comparison_types.specs.declared.Refusal.the-variants.{First, Second, QubitsDiffer, TooManyVariables, WorkspaceShort}
+
+-- a record's rows, told otherwise, give no fault only where the record has none
+untold : (g : Fault → PairFault) (rows : List (Row Fault)) → first (map (told g) rows) ≡ none → first rows ≡ none
+untold g rows e = map-eq-none-iff g (first rows) .0 (sym (first-told g rows) ∙ e)
 
 module _ (s t : List ℕ) (w c : ℕ) where
-  -- the rows of both lists
-  abbrev upper : List Row
-  upper = recordRows s ++ recordRows t
+  -- the rows of the first list
+  abbrev ofFirst : List (Row PairFault)
+  ofFirst = map (told inFirst) (recordRows s)
+
+  -- those of the second
+  abbrev ofSecond : List (Row PairFault)
+  ofSecond = map (told inSecond) (recordRows t)
 
   -- and those below them
-  abbrev lower : List Row
+  abbrev lower : List (Row PairFault)
   lower = pairRows (qubits s) (qubits t) (gates s) (gates t) ++ workspaceRows w c
 
   -- the result for the gates of both lists
@@ -30,26 +43,26 @@ module _ (s t : List ℕ) (w c : ℕ) where
   -- what the checks find is the first row of the whole table that holds
   table-is : pairFault (read s) (read t) (workspaceRows w c) ≡ first (callRows s t w c)
   unfolding read pairFault
-  table-is = go (first (recordRows s)) (first (recordRows t)) refl refl
+  table-is = go (first (recordRows s)) (first (recordRows t)) (first-told inFirst (recordRows s)) (first-told inSecond (recordRows t))
     where
-      go : (o p : Option Fault) → first (recordRows s) ≡ o → first (recordRows t) ≡ p
+      go : (o p : Option Fault) → first ofFirst ≡ Option·map inFirst o → first ofSecond ≡ Option·map inSecond p
           → pairFault (unless o (accepted (qubits s) (gates s))) (unless p (accepted (qubits t) (gates t))) (workspaceRows w c)
           ≡ first (callRows s t w c)
-      go (some f) p e d = sym (first-some upper lower f (first-some (recordRows s) (recordRows t) f e))
-      go none (some f) e d = sym (first-some upper lower f (first-none (recordRows s) (recordRows t) e ∙ d))
-      go none none e d = sym (first-none upper lower (first-none (recordRows s) (recordRows t) e ∙ d))
+      go (some f) p e d = sym (first-some (ofFirst ++ ofSecond) lower (inFirst f) (first-some ofFirst ofSecond (inFirst f) e))
+      go none (some f) e d = sym (first-some (ofFirst ++ ofSecond) lower (inSecond f) (first-none ofFirst ofSecond e ∙ d))
+      go none none e d = sym (first-none (ofFirst ++ ofSecond) lower (first-none ofFirst ofSecond e ∙ d))
 
-  -- where a row holds, its number is said
-  said-some : (f : Fault) → first (callRows s t w c) ≡ some f → comparison s t w c ≡ refuses (f .number)
+  -- where a row holds, its fault is said
+  said-some : (f : PairFault) → first (callRows s t w c) ≡ some f → comparison s t w c ≡ refuses f
   said-some f e = rw (table-is, e)
 
   -- where none does, the result is
   said-none : first (callRows s t w c) ≡ none → comparison s t w c ≡ says result
   unfolding compareRead
   said-none e =
-      let lists = none-left upper lower e in
-      let good = none-left (recordRows s) (recordRows t) lists in
-      let good′ = none-right (recordRows s) (recordRows t) lists in
+      let lists = none-left (ofFirst ++ ofSecond) lower e in
+      let good = untold inFirst (recordRows s) (none-left ofFirst ofSecond lists) in
+      let good′ = untold inSecond (recordRows t) (none-right ofFirst ofSecond lists) in
       rw (
         table-is,
         e,
@@ -59,15 +72,14 @@ module _ (s t : List ℕ) (w c : ℕ) where
 
 -- a pair is refused by the first row that holds for it
 pub pair-refused-by-first-row : PairRefusedByFirstRow
-pair-refused-by-first-row s t w c k = (
-  λ said. go (first (callRows s t w c)) refl said,
-  λ (f, holds, same). said-some s t w c f (first-holds (callRows s t w c) f .1 holds) ∙ ap refuses same,
+pair-refused-by-first-row s t w c f = (
+  λ said. first-holds (callRows s t w c) f .0 (go (first (callRows s t w c)) refl said),
+  λ holds. said-some s t w c f (first-holds (callRows s t w c) f .1 holds),
 )
   where
-    go : (o : Option Fault) → first (callRows s t w c) ≡ o → comparison s t w c ≡ refuses k
-        → (f : Fault) × FirstHolds (callRows s t w c) f × (f .number ≡ k)
+    go : (o : Option PairFault) → first (callRows s t w c) ≡ o → comparison s t w c ≡ refuses f → o ≡ some f
     go none e said = let z : _≡_ {A = ℕ} 0 1 = cc (said-none s t w c e) in absurd (omega arith)
-    go (some f) e said = (f, first-holds (callRows s t w c) f .0 e, cc (said-some s t w c f e))
+    go (some h) e said = cc (said-some s t w c h e)
 
 -- a pair is accepted where no row holds for it, and then its result is said
 pub pair-accepted-by-no-row : PairAcceptedByNoRow
@@ -76,7 +88,83 @@ pair-accepted-by-no-row s t w c r = (
   λ (free, same). said-none s t w c (none-holds (callRows s t w c) .1 free) ∙ ap says (sym same),
 )
   where
-    go : (o : Option Fault) → first (callRows s t w c) ≡ o → comparison s t w c ≡ says r
+    go : (o : Option PairFault) → first (callRows s t w c) ≡ o → comparison s t w c ≡ says r
         → NoneHolds (callRows s t w c) × (r ≡ result s t w c)
     go none e said = (none-holds (callRows s t w c) .0 e, cc (said-none s t w c e))
     go (some f) e said = let z : _≡_ {A = ℕ} 0 1 = cc (said-some s t w c f e) in absurd (omega arith)
+
+-- a fault of one of the lists
+abbrev inAList : PairFault → Bool
+inAList (inFirst f) = true
+inAList (inSecond f) = true
+inAList (ofPair k) = false
+
+module _ (w c : ℕ) where
+  -- two accepted lists have no such fault
+  no-lists-fault : (n m : ℕ) (gs hs : List Gate) (f : PairFault) → inAList f ≡ true
+      → pairFault (accepted n gs) (accepted m hs) (workspaceRows w c) ≡ some f → ⊥
+  unfolding pairFault
+  no-lists-fault n m gs hs f lists e =
+      let pairs : inAList f ≡ false =
+      first-is (λ f. inAList f ≡ false) (pairRows n m gs hs ++ workspaceRows w c) f (refl, (refl, (refl, tt))) e in
+      true≢false (sym lists ∙ pairs)
+
+  -- a refusal says the fault that the checks find
+  said-fault : (p q : Reading) (f : PairFault) → unlessFault (pairFault p q (workspaceRows w c)) (compareRead p q) ≡ refuses f
+      → pairFault p q (workspaceRows w c) ≡ some f
+  unfolding pairFault compareRead
+  said-fault (refused h) q f said = cc
+  said-fault (accepted n gs) (refused h) f said = cc
+  said-fault (accepted n gs) (accepted m hs) f said = go (first (pairRows n m gs hs ++ workspaceRows w c)) said
+    where
+      go : (o : Option PairFault) → unlessFault o (says (compare 0 n gs hs)) ≡ refuses f → o ≡ some f
+      go none said = let z : _≡_ {A = ℕ} 0 1 = cc in absurd (omega arith)
+      go (some h) said = cc
+
+  -- a fault of the first list is that of its reading
+  in-first : (p q : Reading) (f : Fault) → pairFault p q (workspaceRows w c) ≡ some (inFirst f) → p ≡ refused f
+  in-first (refused h) q f e = unfold pairFault in cc
+  in-first (accepted n gs) (refused h) f e = unfold pairFault in let z : _≡_ {A = ℕ} 0 1 = cc in absurd (omega arith)
+  in-first (accepted n gs) (accepted m hs) f e = absurd (no-lists-fault n m gs hs (inFirst f) refl e)
+
+  -- one of the second is that of its reading, and the first is accepted
+  in-second : (p q : Reading) (f : Fault) → pairFault p q (workspaceRows w c) ≡ some (inSecond f)
+      → ((n : ℕ) × (gs : List Gate) × (p ≡ accepted n gs)) × (q ≡ refused f)
+  in-second (refused h) q f e = unfold pairFault in let z : _≡_ {A = ℕ} 0 1 = cc in absurd (omega arith)
+  in-second (accepted n gs) (refused h) f e = unfold pairFault in ((n, gs, refl), cc)
+  in-second (accepted n gs) (accepted m hs) f e = absurd (no-lists-fault n m gs hs (inSecond f) refl e)
+
+-- the first list's fault
+pub first-lists-fault : FirstListsFault
+unfolding pairFault
+first-lists-fault s t w c f = (
+  λ said. in-first w c (read s) (read t) f (said-fault w c (read s) (read t) (inFirst f) said),
+  λ is. rw is,
+)
+
+-- the second list's fault
+pub second-lists-fault : SecondListsFault
+unfolding pairFault
+second-lists-fault s t w c f = (
+  λ said. in-second w c (read s) (read t) f (said-fault w c (read s) (read t) (inSecond f) said),
+  λ ((n, gs, is), bad). rw (is, bad),
+)
+
+-- the refusal that says a fault
+refusing : PairFault → Refusal
+refusing (inFirst f) = First (refusalOf f)
+refusing (inSecond f) = Second (refusalOf f)
+refusing (ofPair k) = cond (eqb k 8) QubitsDiffer (cond (eqb k 9) TooManyVariables WorkspaceShort)
+
+-- what a refusal says gives it back
+refusing-back : (r : Refusal) → refusing (faultOf r) ≡ r
+unfolding refusing
+refusing-back (First r) = ap First (refusal-back r)
+refusing-back (Second r) = ap Second (refusal-back r)
+refusing-back QubitsDiffer = refl
+refusing-back TooManyVariables = refl
+refusing-back WorkspaceShort = refl
+
+-- refusals that say the same are the same
+pub pair-fault-tells : PairFaultTells
+pair-fault-tells r r′ h = sym (refusing-back r) ∙ ap refusing h ∙ refusing-back r′

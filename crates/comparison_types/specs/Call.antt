@@ -8,7 +8,7 @@ use mathlib.Core.List.{List, [], _∷_, _++_}
 use lib.ListN.{length, take, drop, replicate}
 use lib.Dec.{eqb, ltb}
 use Rattle.record_format.specs.Gate.{Gate}
-use Rattle.record_format.specs.Row.{Fault, Row, row, first}
+use Rattle.record_format.specs.Row.{Fault, Row, first}
 use Rattle.record_format.specs.Reading.{Reading, accepted, refused, read, count, size}
 use Rattle.record_format.specs.Answer as list
 use Rattle.amplitude.specs.Circuit.{hGates, tGates}
@@ -23,17 +23,33 @@ use Rattle.comparison_types.specs.declared.Refusal.the-variants.{QubitsD
 use Rattle.comparison_types.specs.declared.Answer.{Answer}
 use Rattle.comparison_types.specs.declared.Answer.the-variants.{Compared, Refused}
 
--- document 01's number of a refusal
-abbrev pub numberOf : Refusal → ℕ
-numberOf (Refusal.List r) = list.numberOf r
-numberOf QubitsDiffer = 8
-numberOf TooManyVariables = 9
-numberOf WorkspaceShort = 10
+-- why a pair is turned down: a fault of the first list or of the second, or a number of the two together and of the workspaces
+pub data PairFault : Type 0 where
+  inFirst inSecond : Fault → PairFault
+  ofPair : ℕ → PairFault
 
--- what a comparison says: a result, or the refusal's number alone
+-- its number
+abbrev pub numberIn : PairFault → ℕ
+numberIn (inFirst f) = f .number
+numberIn (inSecond f) = f .number
+numberIn (ofPair k) = k
+
+-- what a refusal says: the list, the number and the index, or the pair's number
+abbrev pub faultOf : Refusal → PairFault
+faultOf (Refusal.First r) = inFirst (list.faultOf r)
+faultOf (Refusal.Second r) = inSecond (list.faultOf r)
+faultOf QubitsDiffer = ofPair 8
+faultOf TooManyVariables = ofPair 9
+faultOf WorkspaceShort = ofPair 10
+
+-- its number
+abbrev pub numberOf : Refusal → ℕ
+numberOf r = numberIn (faultOf r)
+
+-- what a comparison says: a result, or why the pair is turned down and nothing else
 pub data Said : Type 0 where
   says : Result → Said
-  refuses : ℕ → Said
+  refuses : PairFault → Said
 
 -- document 01's number of a verdict
 abbrev pub verdictNumber : Verdict → ℕ
@@ -62,37 +78,41 @@ resultOf o =
 -- what an answer stands for
 abbrev pub saidOf : Answer → Said
 saidOf (Compared o) = says (resultOf o)
-saidOf (Refused r) = refuses (numberOf r)
+saidOf (Refused r) = refuses (faultOf r)
+
+-- a row of the table for a pair
+abbrev pub pairRow : ℕ → Bool → Row PairFault
+pairRow k c = record { fault = ofPair k; when = c }
 
 -- the table's rows for a pair of accepted lists on n and m qubits
-abbrev pub pairRows : ℕ → ℕ → List Gate → List Gate → List Row
+abbrev pub pairRows : ℕ → ℕ → List Gate → List Gate → List (Row PairFault)
 pairRows n m gs hs =
-    row 8 (not (eqb n m))
-    ∷ row 9 (ltb mostVariables (n + (hGates gs + hGates hs)))
+    pairRow 8 (not (eqb n m))
+    ∷ pairRow 9 (ltb mostVariables (n + (hGates gs + hGates hs)))
     ∷ []
 
 -- and below them its row for workspaces of w and c places
-abbrev pub workspaceRows : ℕ → ℕ → List Row
+abbrev pub workspaceRows : ℕ → ℕ → List (Row PairFault)
 workspaceRows w c =
-    row 10 (ltb w places || ltb c places)
+    pairRow 10 (ltb w places || ltb c places)
     ∷ []
 
 -- the first list is read, then the second, then the pair's rows and those below them are tried from top to bottom
-unfoldable pub pairFault : Reading → Reading → List Row → Option Fault
-pairFault (refused f) r below = some f
-pairFault (accepted n gs) (refused f) below = some f
+unfoldable pub pairFault : Reading → Reading → List (Row PairFault) → Option PairFault
+pairFault (refused f) r below = some (inFirst f)
+pairFault (accepted n gs) (refused f) below = some (inSecond f)
 pairFault (accepted n gs) (accepted m hs) below = first (pairRows n m gs hs ++ below)
 
 -- the comparison of two readings that passed all checks
 unfoldable pub compareRead : Reading → Reading → Said
 compareRead (accepted n gs) (accepted m hs) = says (compare 0 n gs hs)
-compareRead (accepted n gs) (refused f) = refuses (f .number)
-compareRead (refused f) r = refuses (f .number)
+compareRead (accepted n gs) (refused f) = refuses (inSecond f)
+compareRead (refused f) r = refuses (inFirst f)
 
 -- the answer, unless a fault stops it
-abbrev pub unlessFault : Option Fault → Said → Said
+abbrev pub unlessFault : Option PairFault → Said → Said
 unlessFault none s = s
-unlessFault (some f) s = refuses (f .number)
+unlessFault (some f) s = refuses f
 
 -- what comparing two records says
 abbrev pub comparison : List ℕ → List ℕ → ℕ → ℕ → Said
@@ -101,7 +121,7 @@ comparison s t w c = unlessFault (pairFault (read s) (read t) (workspaceRows w c
 -- a lent workspace afterwards: unchanged where the call is refused, else zeros in the first 3,136 places and the others unchanged
 abbrev pub leftBy : Said → List ℕ → List ℕ
 leftBy (says r) old = replicate places 0 ++ drop places old
-leftBy (refuses k) old = old
+leftBy (refuses f) old = old
 
 -- the second list is better: fewer T gates, or as many and fewer gates
 abbrev pub better : List Gate → List Gate → Bool
@@ -119,7 +139,7 @@ isEqual verdict.undecided = false
 
 -- if equal, the better one; the first if different or undecided; nothing if refused
 unfoldable pub choice : Said → Reading → Reading → Choice
-choice (refuses k) r q = nothing
+choice (refuses f) r q = nothing
 choice (says o) (accepted n gs) (accepted m hs) = cond (isEqual (o .verdict)) (cond (better gs hs) theSecond theFirst) theFirst
 choice (says o) (accepted n gs) (refused f) = nothing
 choice (says o) (refused f) q = nothing

@@ -10,7 +10,7 @@ use Rattle.record_format.specs.Reading.{accepted, read}
 use Rattle.amplitude.specs.Circuit.{tGates}
 use Rattle.comparison_meaning.specs.Demands.{Accepted, SomePower, EqualIsRight, DifferentIsRight, ByTheSteps, InputsOnlyIfDifferent, CliffordIsDecided, CountsAddUp, StepsWithinHGates}
 use Rattle.comparison_meaning.specs.Verdict.{Result}
-use Rattle.comparison_types.specs.Call.{comparison, says, refuses, resultOf}
+use Rattle.comparison_types.specs.Call.{PairFault, comparison, says, refuses, resultOf}
 use Rattle.comparison_types.specs.declared.Outcome.{Outcome}
 use Rattle.comparison_types.specs.declared.Answer.{Answer}
 use Rattle.comparison_types.specs.declared.Answer.the-variants.{Compared}
@@ -50,4 +50,4 @@ PickIsRight s t w c part =
 
 -- it is empty exactly where the comparison refuses
 abbrev pub EmptyIfRefused : List ℕ → List ℕ → ℕ → ℕ → List ℕ → Type 0
-EmptyIfRefused s t w c part = (part ≡ []) ↔ ((k : ℕ) × (comparison s t w c ≡ refuses k))
+EmptyIfRefused s t w c part = (part ≡ []) ↔ ((f : PairFault) × (comparison s t w c ≡ refuses f))

@@ -7,14 +7,13 @@ use mathlib.Core.Option.{Option, none, some}
 use mathlib.Core.List.{List}
 use lib.ListN.{length}
 use Rattle.record_format.specs.Gate.{Gate}
-use Rattle.record_format.specs.Row.{Fault}
 use Rattle.record_format.specs.Reading.{accepted, read}
 use Rattle.phase_sum_meaning.specs.Parity.{Parity, rest}
 use Rattle.phase_sum_meaning.specs.Building.{PathSum}
 use Rattle.phase_sum_meaning.specs.Stepping.{replace, takeOut, turned, kindOf, sum, turn, constraint, constrained}
 use Rattle.phase_sum_types.specs.Workspace.{setOf, parityOf, Lent, members, sumOf, Sized}
 use Rattle.comparison_meaning.specs.Reduction as reduction
-use Rattle.comparison_types.specs.Call.{numberOf}
+use Rattle.comparison_types.specs.Call.{PairFault, faultOf}
 use Rattle.phase_sum_types.specs.declared.Sum.{Sum}
 use Rattle.phase_sum_types.specs.declared.Parity.{Parity as ParityWord}
 use Rattle.comparison_types.specs.declared.Answer.{Answer}
@@ -127,15 +126,10 @@ pub record AcceptedWith (n g : ℕ) (s : List ℕ) : Type 0 where
   pub reads : read s ≡ accepted n gates
   pub counted : g ≡ length gates
 
--- the number of a fault, if there is one
-abbrev pub numberIn : Option Fault → Option ℕ
-numberIn none = none
-numberIn (some f) = some (f .number)
-
--- the number that the checks on a pair found, if any did
-abbrev pub pairNumber : PairCheck → Option ℕ
-pairNumber (Good n g h) = none
-pairNumber (PairCheck.Refused r) = some (numberOf r)
+-- the fault that the checks on a pair found, if any did
+abbrev pub foundFault : PairCheck → Option PairFault
+foundFault (Good n g h) = none
+foundFault (PairCheck.Refused r) = some (faultOf r)
 
 -- a pair that passed was read: both lists are accepted, on n qubits, the first with g gates and the second with h
 abbrev pub PairRead : PairCheck → List ℕ → List ℕ → Type 0

@@ -29,10 +29,12 @@ pub struct Outcome {
     pub left: u8,
 }
 
-// Why a pair is turned down. specs/Call.antt gives each case document 01's number.
+// Why a pair is turned down. specs/Call.antt gives each case the table's number and, for a list, the index of its gate.
 pub enum Refusal {
-    // 1 to 7: one of the lists, the first before the second
-    List(record_format::Refusal),
+    // 1 to 7 and 13: the first list
+    First(record_format::Refusal),
+    // 1 to 7 and 13: the second list, where the first is accepted
+    Second(record_format::Refusal),
     // 8: their n differ
     QubitsDiffer,
     // 9: n and the H gates of both are above 64
@@ -52,7 +54,8 @@ pub fn number(r: Refusal) -> u8
     ensures { λ k. ⌜ k ≡ numberOf r ⌝ }
 {
     match r {
-        Refusal::List(refusal) => record_format::number(refusal),
+        Refusal::First(refusal) => record_format::number(refusal),
+        Refusal::Second(refusal) => record_format::number(refusal),
         Refusal::QubitsDiffer => 8,
         Refusal::TooManyVariables => 9,
         Refusal::WorkspaceShort => 10,

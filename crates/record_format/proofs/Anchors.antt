@@ -3,21 +3,12 @@
 -- Assumes nothing.
 use mathlib.Core.Path.{_≡_, refl}
 use Prim.Native.Nat.{ℕ}
-use mathlib.Core.Option.{none, some}
 use mathlib.Core.List.{[], _∷_, _++_}
 use Rattle.record_format.specs.Format.{listMark}
 use Rattle.record_format.specs.Gate.{everyKind, one, two, S, S†, T†, T, H, CX, gateOf, inverseKind, inverseGate, inverseList, X, Y, Z, CZ, SWAP}
-use Rattle.record_format.specs.Row.{Fault, first}
+use Rattle.record_format.specs.Row.{fault, faultAt, first}
 use Rattle.record_format.specs.Reading.{raws, allGateRows, recordRows, accepted, refused, read}
 use Rattle.record_format.specs.Writing.{gatePart, gatesAt}
-
--- a fault of the whole record
-abbrev pub fault : ℕ → Fault
-fault k = record { number = k; gate = none }
-
--- a fault of the gate at index i
-abbrev pub faultAt : ℕ → ℕ → Fault
-faultAt i k = record { number = k; gate = some i }
 
 -- four bytes with another mark: too short comes before the mark
 pub short-before-mark : read (0 ∷ 0 ∷ 1 ∷ 0 ∷ []) ≡ refused (fault 1)
@@ -35,7 +26,7 @@ unfolding read recordRows first allGateRows raws
 count-before-body = refl
 
 -- a short body whose first gate is bad: the body comes before the gates
-pub body-before-gates : read (listMark ++ 1 ∷ 2 ∷ 0 ∷ 11 ∷ 0 ∷ 255 ∷ []) ≡ refused (fault 1)
+pub body-before-gates : read (listMark ++ 1 ∷ 2 ∷ 0 ∷ 11 ∷ 0 ∷ 255 ∷ []) ≡ refused (fault 13)
 unfolding read recordRows first allGateRows raws
 body-before-gates = refl
 

@@ -1,4 +1,4 @@
--- Worked cases that anchor the definitions, lemmas by topic, and the proofs of specs/Promises.antt in Theorems.
+-- Worked cases that anchor the definitions, lemmas by topic, and the proofs of specs/Promises.antt in Theorems and Indices.
 pub mod Anchors
 pub mod GateLaws
 pub mod Rows
@@ -7,3 +7,4 @@ pub mod Reading
 pub mod Storing
 pub mod Writers
 pub mod Theorems
+pub mod Indices

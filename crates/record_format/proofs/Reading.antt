@@ -9,13 +9,15 @@ use native.Mathlib.Numerals.{add-one}
 use native.Mathlib.Omega.{arith}
 use lib.ListN.{length, getD, take, drop}
 use borrow.Author.Tests.{ltb-false}
-use Rattle.record_format.specs.Gate.{Raw, raw}
+use Rattle.record_format.specs.Gate.{raw}
 use Rattle.record_format.specs.Row.{Fault, Row, first}
-use Rattle.record_format.specs.Reading.{qubits, count, size, body, raws, gates, headRows, gateRows, allGateRows, recordRows, accepted, unless, read}
-use Rattle.record_format.specs.Answer.{gives, refuses, numberOf, checkedAnswer}
+use Rattle.record_format.specs.Reading.{qubits, count, size, body, raws, rawAt, gates, headRows, gateRows, allGateRows, recordRows, accepted, unless, read}
+use Rattle.record_format.specs.Answer.{gives, refuses, faultOf, checkedAnswer, gateFault}
 use Rattle.record_format.specs.declared.Refusal.{Refusal}
 use Rattle.record_format.specs.declared.Checked.{Checked}
 use Rattle.record_format.specs.declared.Checked.the-variants.{Accepted}
+use Rattle.record_format.specs.declared.gate.GateCheck.{GateCheck}
+use Rattle.record_format.specs.declared.gate.GateCheck.the-variants.{Good}
 use Rattle.record_format.specs.Writing.{faultOr, checkAnswer}
 use Rattle.record_format.specs.Inner.{headAnswer}
 use Rattle.record_format.proofs.Rows.{none-holds, first-none, first-some}
@@ -30,12 +32,8 @@ raws-step s p m h =
     let bytes : 3 * suc m ≡ suc (suc (suc (3 * m))) = omega arith in
     rw (bytes, three-at s p (omega arith))
 
--- the three bytes of the gate at index i
-abbrev pub rawAt : List ℕ → ℕ → Raw
-rawAt s i = raw (getD s (5 + 3 * i) 0) (getD s (5 + 3 * i + 1) 0) (getD s (5 + 3 * i + 2) 0)
-
 -- the rows of a record's g gates, from the one at index i on
-abbrev pub rowsFrom : List ℕ → ℕ → ℕ → ℕ → List Row
+abbrev pub rowsFrom : List ℕ → ℕ → ℕ → ℕ → List (Row Fault)
 rowsFrom s n g i = allGateRows n i (raws (take (3 * (g - i)) (drop (5 + 3 * i) s)))
 
 -- behind the last gate there are none
@@ -67,6 +65,17 @@ pub stop-bad : (s : List ℕ) (n g i : ℕ) (f : Fault) → i < g → 5 + 3 * g 
 stop-bad s n g i f h whole bad =
     rw (rowsFrom-step s n g i h whole) (first-some (gateRows n i (rawAt s i)) (rowsFrom s n g (i + 1)) f bad)
 
+-- the check of one gate of a record, which found so much
+module _ (s : List ℕ) (n g i : ℕ) (found : GateCheck) (h : i < g) (whole : 5 + 3 * g ≤ length s)
+    (faults : gateFault found ≡ first (gateRows n i (rawAt s i))) where
+  -- a gate that it found good is passed
+  pub pass-checked : found ≡ Good → first (rowsFrom s n g i) ≡ first (rowsFrom s n g (i + 1))
+  pass-checked is = pass-good s n g i h whole (sym faults ∙ ap gateFault is)
+
+  -- the fault of one that it refused is the first
+  pub stop-checked : {r : Refusal} → found ≡ GateCheck.Refused r → first (rowsFrom s n g i) ≡ some (faultOf r)
+  stop-checked {r} is = stop-bad s n g i (faultOf r) h whole (sym faults ∙ ap gateFault is)
+
 -- a head that is accepted: no row stops it, n and g are its own, and the body is whole
 pub record HeadPassed (s : List ℕ) (n g : ℕ) : Type 0 where
   pub good : first (headRows s) ≡ none
@@ -89,13 +98,13 @@ head-gives s n g = go (first (headRows s)) refl
         }
     go (some f) e h = let z : _≡_ {A = ℕ} 0 1 = cc in absurd (omega arith)
 
--- a record whose head is refused is refused by the same number
-pub head-refuses : (s : List ℕ) (k : ℕ) → refuses k ≡ headAnswer s → refuses k ≡ checkAnswer (read s)
+-- a record whose head is refused is refused by the same fault
+pub head-refuses : (s : List ℕ) (f : Fault) → refuses f ≡ headAnswer s → refuses f ≡ checkAnswer (read s)
 unfolding read recordRows
-head-refuses s k = go (first (headRows s)) refl
+head-refuses s f = go (first (headRows s)) refl
   where
-    go : (o : Option Fault) → first (headRows s) ≡ o → refuses k ≡ faultOr o (gives (qubits s ∷ count s ∷ []))
-        → refuses k ≡ checkAnswer (read s)
+    go : (o : Option Fault) → first (headRows s) ≡ o → refuses f ≡ faultOr o (gives (qubits s ∷ count s ∷ []))
+        → refuses f ≡ checkAnswer (read s)
     go none e h = cc
     go (some f) e h = rw (first-some (headRows s) (allGateRows (qubits s) 0 (raws (body s))) f e) h
 
@@ -133,13 +142,12 @@ accepts s found n g answers is = go (first (recordRows s)) refl (rw is at answer
         record { good = good; head = head; n-is = cc; g-is = length-is ∙ length-gates s (head .whole) }
     go (some f) bad h = let z : _≡_ {A = ℕ} 0 1 = cc in absurd (omega arith)
 
--- a check that answered a refusal found a fault of that number
+-- a check that answered a refusal found its fault
 pub refuses-by : (s : List ℕ) (found : Checked) (r : Refusal) → checkedAnswer found ≡ checkAnswer (read s) → found ≡ Checked.Refused r
-    → (f : Fault) × (first (recordRows s) ≡ some f) × (numberOf r ≡ f .number)
+    → first (recordRows s) ≡ some (faultOf r)
 unfolding read
-refuses-by s found r answers is = go (first (recordRows s)) refl (rw is at answers)
+refuses-by s found r answers is = go (first (recordRows s)) (rw is at answers)
   where
-    go : (o : Option Fault) → first (recordRows s) ≡ o → refuses (numberOf r) ≡ checkAnswer (unless o (accepted (qubits s) (gates s)))
-        → (f : Fault) × (first (recordRows s) ≡ some f) × (numberOf r ≡ f .number)
-    go none good h = let z : _≡_ {A = ℕ} 0 1 = cc in absurd (omega arith)
-    go (some f) bad h = (f, bad, cc)
+    go : (o : Option Fault) → refuses (faultOf r) ≡ checkAnswer (unless o (accepted (qubits s) (gates s))) → o ≡ some (faultOf r)
+    go none h = let z : _≡_ {A = ℕ} 0 1 = cc in absurd (omega arith)
+    go (some f) h = cc

@@ -1,9 +1,10 @@
--- The promises of specs/Promises.antt, each proved, and that a refusal's number tells the refusal.
+-- The promises of specs/Promises.antt, each proved but for those on a fault's index, which stand in Indices.
 -- Assumes nothing.
 use mathlib.Core.Path.{_≡_, refl, sym, ap, _∙_}
 use mathlib.Core.Logic.{_≢_}
 use Prim.Native.Nat.{ℕ, _≤_, _<_}
 use native.Mathlib.Omega.{arith}
+use mathlib.Core.Bool.{cond}
 use mathlib.Core.Option.{Option, none, some}
 use mathlib.Core.List.{List, [], _∷_, _++_}
 use lib.ListN.{length, getD, take, drop, length-append}
@@ -14,13 +15,13 @@ use Rattle.record_format.specs.Format.{mostGates, reportSize, lastVerdic
 use Rattle.record_format.specs.Gate.{Gate, gateOf, inverseList}
 use Rattle.record_format.specs.Row.{Fault, Row, row, first}
 use Rattle.record_format.specs.Reading.{size, count, qubits, gates, badQubits, gateRows, recordRows, accepted, refused, unless, read}
-use Rattle.record_format.specs.Answer.{gives, refuses, fields, numberOf}
+use Rattle.record_format.specs.Answer.{gives, refuses, fields, faultOf}
 use Rattle.record_format.specs.Writing.{encode, outcome, write, start, add, inverse}
 use Rattle.record_format.specs.Report.{reportBytes, reportRows, writeReport, readReport}
-use Rattle.record_format.specs.Promises.{NoneHolds, RefusedByFirstRow, AcceptedByNoRow, WellFormed, AcceptedIsSound, EncodedIsAccepted, StartReadsBack, AddReadsBack, InverseReadsBack, InverseTwice, ReportReadsBack, FirstHolds, writerRows, RefusedWriterChangesNothing, WriterKeepsTheRest, NumberTells}
+use Rattle.record_format.specs.Promises.{NoneHolds, RefusedByFirstRow, AcceptedByNoRow, WellFormed, AcceptedIsSound, EncodedIsAccepted, StartReadsBack, AddReadsBack, InverseReadsBack, InverseTwice, ReportReadsBack, FirstHolds, writerRows, RefusedWriterChangesNothing, WriterKeepsTheRest, FaultTells}
 use Rattle.record_format.specs.declared.Report.{Report}
 use Rattle.record_format.specs.declared.Refusal.{Refusal}
-use Rattle.record_format.specs.declared.Refusal.the-variants.{Short, WrongMark, QubitCount, GateCount, UnknownKind, QubitRange, SpareByte, BufferShort}
+use Rattle.record_format.specs.declared.Refusal.the-variants.{Short, WrongMark, QubitCount, GateCount, BodyShort, UnknownKind, SpareByte, QubitRange, UnknownVerdict, BufferShort}
 use Rattle.record_format.proofs.Rows.{none-holds, first-holds, none-left, none-right}
 use Rattle.record_format.proofs.GateLaws.{inverse-inverse, length-inverse, within-append, within-inverse}
 use Rattle.record_format.proofs.Encoding.{length-gates, length-encode, good-qubits, good-raw, good-head, gates-within, encode-gates, two-bytes-back, encoded-gates, encoded-good}
@@ -30,11 +31,11 @@ one-reading : {n : ℕ} {gs : List Gate} {f : Fault} → accepted n gs ≡ refus
 one-reading h = let z : _≡_ {A = ℕ} 0 1 = cc in omega arith
 
 -- an answer does not both give and refuse
-one-answer : {values : List ℕ} {k : ℕ} → gives values ≡ refuses k → ⊥
+pub one-answer : {values : List ℕ} {f : Fault} → gives values ≡ refuses f → ⊥
 one-answer h = let z : _≡_ {A = ℕ} 0 1 = cc in omega arith
 
 -- a refused record is stopped by the fault that it is refused for
-stopped : (s : List ℕ) (f : Fault) → read s ≡ refused f → first (recordRows s) ≡ some f
+pub stopped : (s : List ℕ) (f : Fault) → read s ≡ refused f → first (recordRows s) ≡ some f
 unfolding read
 stopped s f = go (first (recordRows s))
   where
@@ -43,7 +44,7 @@ stopped s f = go (first (recordRows s))
     go (some g) h = cc
 
 -- an accepted record is stopped by nothing, and is accepted with its own n and gates
-passed : (s : List ℕ) (n : ℕ) (gs : List Gate) → read s ≡ accepted n gs → (first (recordRows s) ≡ none) × (qubits s ≡ n) × (gates s ≡ gs)
+pub passed : (s : List ℕ) (n : ℕ) (gs : List Gate) → read s ≡ accepted n gs → (first (recordRows s) ≡ none) × (qubits s ≡ n) × (gates s ≡ gs)
 unfolding read
 passed s n gs = go (first (recordRows s))
   where
@@ -99,13 +100,13 @@ encoded-is-accepted n gs rest some-qubit few-qubits few within =
 
 -- a writer that gives values was stopped by none of its rows, and wrote the new record
 written :
-    (rows : List Row) (new buffer values : List ℕ)
+    (rows : List (Row Fault)) (new buffer values : List ℕ)
     → write rows new buffer .answer ≡ gives values
     → (first rows ≡ none) × (write rows new buffer .buffer ≡ new ++ drop (length new) buffer)
 unfolding write
 written rows new buffer values = go (first (rows ++ last)) refl
   where
-    last : List Row
+    last : List (Row Fault)
     last = row 11 (ltb (length buffer) (length new)) ∷ []
 
     go : (o : Option Fault) → first (rows ++ last) ≡ o → outcome o new buffer .answer ≡ gives values
@@ -222,12 +223,12 @@ report-reads-back r buffer values first-fits second-fits h =
 -- a refused writer changes no byte
 pub refused-writer-changes-nothing : RefusedWriterChangesNothing
 unfolding write
-refused-writer-changes-nothing rows new buffer k = go (first (writerRows rows new buffer)) refl
+refused-writer-changes-nothing rows new buffer f = go (first (writerRows rows new buffer)) refl
   where
-    go : (o : Option Fault) → first (writerRows rows new buffer) ≡ o → outcome o new buffer .answer ≡ refuses k
-        → ((f : Fault) × FirstHolds (writerRows rows new buffer) f × (f .number ≡ k)) × (outcome o new buffer .buffer ≡ buffer)
+    go : (o : Option Fault) → first (writerRows rows new buffer) ≡ o → outcome o new buffer .answer ≡ refuses f
+        → FirstHolds (writerRows rows new buffer) f × (outcome o new buffer .buffer ≡ buffer)
     go none e h = absurd (one-answer h)
-    go (some f) e h = ((f, first-holds (writerRows rows new buffer) f .0 e, cc), refl)
+    go (some g) e h = let same : g ≡ f = cc in (first-holds (writerRows rows new buffer) f .0 (e ∙ ap some same), refl)
 
 -- another leaves the bytes behind its record
 pub writer-keeps-the-rest : WriterKeepsTheRest
@@ -239,22 +240,30 @@ writer-keeps-the-rest rows new buffer values = go (first (writerRows rows new bu
     go none e h = (none-holds (writerRows rows new buffer) .0 e, cc, refl)
     go (some f) e h = absurd (one-answer (sym h))
 
--- a refusal from its number
-refusalOf : ℕ → Refusal
-refusalOf k = getD (Short ∷ Short ∷ WrongMark ∷ QubitCount ∷ GateCount ∷ UnknownKind ∷ QubitRange ∷ SpareByte ∷ []) k BufferShort
+-- a refusal by its index and number
+numbered : Option ℕ → ℕ → Refusal
+numbered none k =
+    getD (Short ∷ Short ∷ WrongMark ∷ QubitCount ∷ GateCount ∷ UnknownVerdict ∷ []) k (cond (eqb k 11) BufferShort BodyShort)
+numbered (some i) k = cond (eqb k 5) (UnknownKind i) (cond (eqb k 6) (QubitRange i) (SpareByte i))
 
--- the number of a refusal gives it back
-refusal-back : (r : Refusal) → refusalOf (numberOf r) ≡ r
-unfolding refusalOf
+-- the refusal that says a fault
+pub refusalOf : Fault → Refusal
+refusalOf f = numbered (f .index) (f .number)
+
+-- what a refusal says gives it back
+pub refusal-back : (r : Refusal) → refusalOf (faultOf r) ≡ r
+unfolding refusalOf numbered
 refusal-back Short = refl
 refusal-back WrongMark = refl
 refusal-back QubitCount = refl
 refusal-back GateCount = refl
-refusal-back UnknownKind = refl
-refusal-back QubitRange = refl
-refusal-back SpareByte = refl
+refusal-back BodyShort = refl
+refusal-back (UnknownKind i) = refl
+refusal-back (SpareByte i) = refl
+refusal-back (QubitRange i) = refl
+refusal-back UnknownVerdict = refl
 refusal-back BufferShort = refl
 
--- refusals with the same number are the same
-pub number-tells : NumberTells
-number-tells r r′ h = sym (refusal-back r) ∙ ap refusalOf h ∙ refusal-back r′
+-- refusals with the same number and index are the same
+pub fault-tells : FaultTells
+fault-tells r r′ h = sym (refusal-back r) ∙ ap refusalOf h ∙ refusal-back r′

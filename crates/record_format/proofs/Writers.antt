@@ -13,9 +13,9 @@ use lib.Seq.{take-append-add}
 use lib.Dec.{ltb, eqb}
 use borrow.Author.Tests.{lt-ltb, le-ltb, eq-eqb, ne-eqb}
 use Rattle.record_format.specs.Gate.{Raw, inverseList}
-use Rattle.record_format.specs.Row.{Fault, Row, row, first}
+use Rattle.record_format.specs.Row.{Fault, fault, Row, row, first}
 use Rattle.record_format.specs.Reading.{size, qubits, count, gates, gateRows, recordRows, read}
-use Rattle.record_format.specs.Answer.{gives, refuses, numberOf, checkedAnswer, gateFault}
+use Rattle.record_format.specs.Answer.{gives, refuses, faultOf, checkedAnswer, gateFault}
 use Rattle.record_format.specs.declared.Refusal.{Refusal}
 use Rattle.record_format.specs.declared.Checked.{Checked}
 use Rattle.record_format.specs.declared.gate.GateCheck.{GateCheck}
@@ -27,12 +27,12 @@ use Rattle.record_format.proofs.Encoding.{length-gates, length-encode, 
 use Rattle.record_format.proofs.Storing.{behind-head}
 use Rattle.record_format.proofs.Reading.{Accepts, refuses-by}
 
--- a writer that is turned down by number k leaves the buffer l alone
-abbrev pub turnedDown : ℕ → List ℕ → Outcome
-turnedDown k l = record { answer = refuses k; buffer = l }
+-- a writer that is turned down by a fault leaves the buffer l alone
+abbrev pub turnedDown : Fault → List ℕ → Outcome
+turnedDown f l = record { answer = refuses f; buffer = l }
 
 -- a writer with no row of its own is turned down where the buffer is shorter than its k bytes
-write-short : (new l : List ℕ) (k : ℕ) → length new ≡ k → length l < k → write [] new l ≡ turnedDown 11 l
+write-short : (new l : List ℕ) (k : ℕ) → length new ≡ k → length l < k → write [] new l ≡ turnedDown (fault 11) l
 unfolding write first
 write-short new l k e h = rw (e, lt-ltb (length l) k h)
 
@@ -43,13 +43,13 @@ unfolding write first
 write-fits new l k e h = simp (e, le-ltb (length l) k h)
 
 -- rows of which none holds leave the length alone to check
-write-on : (rows : List Row) (new l : List ℕ) → first rows ≡ none → write rows new l ≡ write [] new l
+write-on : (rows : List (Row Fault)) (new l : List ℕ) → first rows ≡ none → write rows new l ≡ write [] new l
 unfolding write
 write-on rows new l good = rw (first-none rows (row 11 (ltb (length l) (length new)) ∷ []) good)
 
 -- the first row that holds turns a writer down
-write-refused : (rows : List Row) (new l : List ℕ) (f : Fault) → first rows ≡ some f
-    → write rows new l ≡ turnedDown (f .number) l
+pub write-refused : (rows : List (Row Fault)) (new l : List ℕ) (f : Fault) → first rows ≡ some f
+    → write rows new l ≡ turnedDown f l
 unfolding write
 write-refused rows new l f bad = rw (first-some rows (row 11 (ltb (length l) (length new)) ∷ []) f bad)
 
@@ -59,7 +59,7 @@ length-appended n g r l h = simp (length-append, length-take, length-drop) (omeg
 
 -- a gate is not added where the buffer ends before its bytes would
 pub append-short : (n g : ℕ) (r : Raw) (l : List ℕ) → size g ≤ length l → length l < size g + 3
-    → write [] (appended n g r l) l ≡ turnedDown 11 l
+    → write [] (appended n g r l) l ≡ turnedDown (fault 11) l
 append-short n g r l whole short = write-short (appended n g r l) l (size g + 3) (length-appended n g r l whole) short
 
 -- a new head and then a gate behind the old ones are what adding writes
@@ -76,53 +76,51 @@ append-stored n g r l m fits e =
 -- adding to a record that is turned down
 pub add-unread : (r : Raw) (l : List ℕ) (found : Checked) (no-record : Refusal) → checkedAnswer found ≡ checkAnswer (read l)
     → found ≡ Checked.Refused no-record
-    → add r l ≡ turnedDown (numberOf no-record) l
+    → add r l ≡ turnedDown (faultOf no-record) l
 unfolding add
 add-unread r l found no-record answers is =
-    let (f, bad, same) = refuses-by l found no-record answers is in
-    rw same (write-refused _ _ l f (first-some (recordRows l) _ f bad))
+    let f = faultOf no-record in
+    write-refused _ _ l f (first-some (recordRows l) _ f (refuses-by l found no-record answers is))
 
 -- the first fault of a gate to add to a record that was accepted
-first-to-add : (r : Raw) (l : List ℕ) (n g : ℕ) → Accepts l n g
+pub first-to-add : (r : Raw) (l : List ℕ) (n g : ℕ) → Accepts l n g
     → first (recordRows l ++ row 4 (eqb (count l) 512) ∷ gateRows (qubits l) (count l) r)
-    ≡ cond (eqb g 512) (some (row 4 (eqb g 512) .fault)) (first (gateRows n g r))
+    ≡ cond (eqb g 512) (some (fault 4)) (first (gateRows n g r))
 unfolding first
 first-to-add r l n g read-l = rw (read-l .n-is, read-l .g-is) (first-none (recordRows l) _ (read-l .good))
 
 -- adding to a full record
-pub add-full : (r : Raw) (l : List ℕ) (n g : ℕ) → Accepts l n g → g ≡ 512 → add r l ≡ turnedDown 4 l
+pub add-full : (r : Raw) (l : List ℕ) (n g : ℕ) → Accepts l n g → g ≡ 512 → add r l ≡ turnedDown (fault 4) l
 unfolding add
-add-full r l n g read-l full = write-refused _ _ l (row 4 (eqb g 512) .fault) (first-to-add r l n g read-l ∙ rw (eq-eqb g 512 full))
+add-full r l n g read-l full = write-refused _ _ l (fault 4) (first-to-add r l n g read-l ∙ rw (eq-eqb g 512 full))
 
 -- adding a bad gate
 pub add-bad : (r : Raw) (l : List ℕ) (n g : ℕ) (found : GateCheck) (no-gate : Refusal) → Accepts l n g → g ≢ 512
-    → ((i : ℕ) → gateFault i found ≡ first (gateRows n i r))
+    → gateFault found ≡ first (gateRows n g r)
     → found ≡ GateCheck.Refused no-gate
-    → add r l ≡ turnedDown (numberOf no-gate) l
+    → add r l ≡ turnedDown (faultOf no-gate) l
 unfolding add
 add-bad r l n g found no-gate read-l room faults is =
-    write-refused _ _ l (record { number = numberOf no-gate; gate = some g })
-    (first-to-add r l n g read-l ∙ rw (ne-eqb g 512 room, ← faults g, is))
+    write-refused _ _ l (faultOf no-gate) (first-to-add r l n g read-l ∙ rw (ne-eqb g 512 room, ← faults, is))
 
 -- adding a good one
 pub add-good : (r : Raw) (l : List ℕ) (n g : ℕ) (found : GateCheck) → Accepts l n g → g ≢ 512
-    → ((i : ℕ) → gateFault i found ≡ first (gateRows n i r))
+    → gateFault found ≡ first (gateRows n g r)
     → found ≡ Good
     → add r l ≡ write [] (appended n g r l) l
 unfolding add
 add-good r l n g found read-l room faults is =
-    let good : first (gateRows n g r) ≡ none = rw (← faults g, is) in
+    let good : first (gateRows n g r) ≡ none = rw (← faults, is) in
     write-on _ _ l (first-to-add r l n g read-l ∙ rw (ne-eqb g 512 room) good)
     ∙ rw (read-l .n-is, read-l .g-is, encode-appended l r g (read-l .good) (rw (read-l .n-is) at good))
 
 -- inverting a record that is turned down
 pub inverse-unread : (s l : List ℕ) (found : Checked) (no-record : Refusal) → checkedAnswer found ≡ checkAnswer (read s)
     → found ≡ Checked.Refused no-record
-    → inverse s l ≡ turnedDown (numberOf no-record) l
+    → inverse s l ≡ turnedDown (faultOf no-record) l
 unfolding inverse
 inverse-unread s l found no-record answers is =
-    let (f, bad, same) = refuses-by s found no-record answers is in
-    rw same (write-refused (recordRows s) _ l f bad)
+    write-refused (recordRows s) _ l (faultOf no-record) (refuses-by s found no-record answers is)
 
 -- the inverse is as long as the record
 length-inverse : (s : List ℕ) (n g : ℕ) → Accepts s n g → length (encode (qubits s) (inverseList (gates s))) ≡ size g
@@ -131,7 +129,7 @@ length-inverse s n g read-s =
     rw (length-encode, length-reverse, length-map, length-gates s (read-s .head .whole), read-s .g-is)
 
 -- inverting into a buffer that is too short
-pub inverse-short : (s l : List ℕ) (n g : ℕ) → Accepts s n g → length l < size g → inverse s l ≡ turnedDown 11 l
+pub inverse-short : (s l : List ℕ) (n g : ℕ) → Accepts s n g → length l < size g → inverse s l ≡ turnedDown (fault 11) l
 unfolding inverse
 inverse-short s l n g read-s short = write-on _ _ l (read-s .good) ∙ write-short _ l (size g) (length-inverse s n g read-s) short
 

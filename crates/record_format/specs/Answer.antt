@@ -1,11 +1,11 @@
--- What the cases of the layer's answers mean in document 01's numbers and values. The contracts speak through these.
+-- What the cases of the layer's answers mean in the numbers, indices and values of documents 01 and 02. The contracts speak through these.
 -- Assumes nothing.
 use Prim.Native.Nat.{ℕ}
 use mathlib.Core.Option.{Option, none, some}
 use mathlib.Core.List.{List, [], _∷_}
-use Rattle.record_format.specs.Row.{Fault}
+use Rattle.record_format.specs.Row.{Fault, fault, faultAt}
 use Rattle.record_format.specs.declared.Refusal.{Refusal}
-use Rattle.record_format.specs.declared.Refusal.the-variants.{Short, WrongMark, QubitCount, GateCount, UnknownKind, QubitRange, SpareByte, BufferShort}
+use Rattle.record_format.specs.declared.Refusal.the-variants.{Short, WrongMark, QubitCount, GateCount, BodyShort, UnknownKind, SpareByte, QubitRange, UnknownVerdict, BufferShort}
 use Rattle.record_format.specs.declared.Checked.{Checked}
 use Rattle.record_format.specs.declared.Checked.the-variants.{Accepted}
 use Rattle.record_format.specs.declared.Written.{Written}
@@ -16,31 +16,37 @@ use Rattle.record_format.specs.declared.ReportRead.the-variants.{Fields}
 use Rattle.record_format.specs.declared.gate.GateCheck.{GateCheck}
 use Rattle.record_format.specs.declared.gate.GateCheck.the-variants.{Good}
 
--- what a call answers: its values, or the refusal's number alone
+-- what a call answers: its values, or why it is turned down and nothing else
 pub data Answer : Type 0 where
   gives : List ℕ → Answer
-  refuses : ℕ → Answer
+  refuses : Fault → Answer
 
--- document 01's number of a refusal
+-- what a refusal says: the table's number, and the index of the gate that it names
+abbrev pub faultOf : Refusal → Fault
+faultOf Short = fault 1
+faultOf WrongMark = fault 2
+faultOf QubitCount = fault 3
+faultOf GateCount = fault 4
+faultOf BodyShort = fault 13
+faultOf (UnknownKind i) = faultAt i 5
+faultOf (SpareByte i) = faultAt i 7
+faultOf (QubitRange i) = faultAt i 6
+faultOf UnknownVerdict = fault 5
+faultOf BufferShort = fault 11
+
+-- its number
 abbrev pub numberOf : Refusal → ℕ
-numberOf Short = 1
-numberOf WrongMark = 2
-numberOf QubitCount = 3
-numberOf GateCount = 4
-numberOf UnknownKind = 5
-numberOf QubitRange = 6
-numberOf SpareByte = 7
-numberOf BufferShort = 11
+numberOf r = faultOf r .number
 
 -- what check answered
 abbrev pub checkedAnswer : Checked → Answer
 checkedAnswer (Accepted n g) = gives (n ∷ g ∷ [])
-checkedAnswer (Checked.Refused r) = refuses (numberOf r)
+checkedAnswer (Checked.Refused r) = refuses (faultOf r)
 
 -- what a writer answered
 abbrev pub writtenAnswer : Written → Answer
 writtenAnswer (Length size) = gives (size ∷ [])
-writtenAnswer (Written.Refused r) = refuses (numberOf r)
+writtenAnswer (Written.Refused r) = refuses (faultOf r)
 
 -- a report's eight fields, in the record's order
 abbrev pub fields : Report → List ℕ
@@ -50,9 +56,9 @@ fields r =
 -- what the report reader answered
 abbrev pub reportAnswer : ReportRead → Answer
 reportAnswer (Fields r) = gives (fields r)
-reportAnswer (ReportRead.Refused r) = refuses (numberOf r)
+reportAnswer (ReportRead.Refused r) = refuses (faultOf r)
 
--- what the check of the gate at index i found
-abbrev pub gateFault : ℕ → GateCheck → Option Fault
-gateFault i Good = none
-gateFault i (GateCheck.Refused r) = some (record { number = numberOf r; gate = some i })
+-- what a check of gates found
+abbrev pub gateFault : GateCheck → Option Fault
+gateFault Good = none
+gateFault (GateCheck.Refused r) = some (faultOf r)

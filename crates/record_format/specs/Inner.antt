@@ -1,25 +1,18 @@
 -- What the layer's private functions do, for their contracts. No public contract cites anything of this file.
 -- Assumes nothing.
 use Prim.Native.Nat.{ℕ, _+_, _*_}
-use mathlib.Core.Option.{Option, none, some}
 use mathlib.Core.List.{List, [], _∷_, _++_}
 use lib.ListN.{take, drop}
 use Rattle.record_format.specs.Format.{headSize, gateSize}
 use Rattle.record_format.specs.Gate.{Raw, inverseNumber}
-use Rattle.record_format.specs.Row.{Fault, first}
+use Rattle.record_format.specs.Row.{first}
 use Rattle.record_format.specs.Reading.{qubits, count, headRows}
-use Rattle.record_format.specs.Answer.{Answer, gives, numberOf}
+use Rattle.record_format.specs.Answer.{Answer, gives}
 use Rattle.record_format.specs.Writing.{faultOr, headBytes}
-use Rattle.record_format.specs.declared.GatesCheck.{GatesCheck}
 
 -- what the checks on head and body answer
 abbrev pub headAnswer : List ℕ → Answer
 headAnswer s = faultOr (first (headRows s)) (gives (qubits s ∷ count s ∷ []))
-
--- what the check of a record's gates found
-abbrev pub gatesFault : GatesCheck → Option Fault
-gatesFault GatesCheck.Good = none
-gatesFault (GatesCheck.Refused r i) = some (record { number = numberOf r; gate = some i })
 
 -- the bytes that adding writes: the head with one gate more, the old gates' bytes, the new gate's
 abbrev pub appended : ℕ → ℕ → Raw → List ℕ → List ℕ

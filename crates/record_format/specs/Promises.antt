@@ -4,29 +4,30 @@
 use mathlib.Core.Path.{_≡_}
 use mathlib.Core.Logic.{_↔_}
 use Prim.Native.Nat.{ℕ, _≤_, _<_}
-use mathlib.Core.Bool.{true, false}
+use mathlib.Core.Bool.{Bool, true, false, _||_}
+use mathlib.Core.Option.{Option, none, some}
 use mathlib.Core.List.{List, [], _∷_, _++_}
 use lib.ListN.{length, take, drop}
-use lib.Dec.{ltb}
+use lib.Dec.{ltb, eqb}
 use Rattle.record_format.specs.Format.{mostQubits, mostGates, Bytes}
 use Rattle.record_format.specs.Gate.{Gate, Raw, AllWithin, gateOf, inverseList}
 use Rattle.record_format.specs.Row.{Fault, Row, row}
-use Rattle.record_format.specs.Reading.{size, count, qubits, gates, recordRows, accepted, refused, read}
-use Rattle.record_format.specs.Answer.{gives, refuses, numberOf, fields}
-use Rattle.record_format.specs.Writing.{encode, write, start, add, inverse}
+use Rattle.record_format.specs.Reading.{size, count, qubits, rawAt, gates, headRows, gateRows, recordRows, accepted, refused, read}
+use Rattle.record_format.specs.Answer.{gives, refuses, faultOf, fields}
+use Rattle.record_format.specs.Writing.{encode, checkAnswer, write, start, add, inverse}
 use Rattle.record_format.specs.Report.{writeReport, readReport}
 use Rattle.record_format.specs.declared.Refusal.{Refusal}
 use Rattle.record_format.specs.declared.Report.{Report}
 
 -- no row's condition holds
-abbrev pub NoneHolds : List Row → Type 0
+abbrev pub NoneHolds : {F : Type 0} → List (Row F) → Type 0
 NoneHolds [] = Unit {0}
 NoneHolds (r ∷ rs) = (r .when ≡ false) × NoneHolds rs
 
 -- f is the fault of the first row whose condition holds
-abbrev pub FirstHolds : List Row → Fault → Type 0
-FirstHolds rows f =
-    (before : List Row) × (r : Row) × (after : List Row) × (rows ≡ before ++ r ∷ after) × NoneHolds before × (r .when ≡ true) × (r .fault ≡ f)
+abbrev pub FirstHolds : {F : Type 0} → List (Row F) → F → Type 0
+FirstHolds {F} rows f =
+    (before : List (Row F)) × (r : Row F) × (after : List (Row F)) × (rows ≡ before ++ r ∷ after) × NoneHolds before × (r .when ≡ true) × (r .fault ≡ f)
 
 -- a record is refused by the first row of the table that holds for it
 abbrev pub RefusedByFirstRow : Type 0
@@ -103,23 +104,75 @@ ReportReadsBack =
     → readReport (writeReport r buffer .buffer) ≡ gives (fields r)
 
 -- every check of a writer: its own rows and then, last, number 11
-abbrev pub writerRows : List Row → List ℕ → List ℕ → List Row
+abbrev pub writerRows : List (Row Fault) → List ℕ → List ℕ → List (Row Fault)
 writerRows rows new buffer = rows ++ row 11 (ltb (length buffer) (length new)) ∷ []
 
--- a refused writer answers the number of the first row that holds, and changes no byte
+-- a refused writer answers the fault of the first row that holds, and changes no byte
 abbrev pub RefusedWriterChangesNothing : Type 0
 RefusedWriterChangesNothing =
-    (rows : List Row) (new buffer : List ℕ) (k : ℕ)
-    → write rows new buffer .answer ≡ refuses k
-    → ((f : Fault) × FirstHolds (writerRows rows new buffer) f × (f .number ≡ k)) × (write rows new buffer .buffer ≡ buffer)
+    (rows : List (Row Fault)) (new buffer : List ℕ) (f : Fault)
+    → write rows new buffer .answer ≡ refuses f
+    → FirstHolds (writerRows rows new buffer) f × (write rows new buffer .buffer ≡ buffer)
 
 -- another answers the new record's length, writes it at the front and leaves all bytes after it
 abbrev pub WriterKeepsTheRest : Type 0
 WriterKeepsTheRest =
-    (rows : List Row) (new buffer values : List ℕ)
+    (rows : List (Row Fault)) (new buffer values : List ℕ)
     → write rows new buffer .answer ≡ gives values
     → NoneHolds (writerRows rows new buffer) × (values ≡ length new ∷ []) × (write rows new buffer .buffer ≡ new ++ drop (length new) buffer)
 
--- the number tells which case a refusal is
-abbrev pub NumberTells : Type 0
-NumberTells = (r r′ : Refusal) → numberOf r ≡ numberOf r′ → r ≡ r′
+-- number and index together tell which refusal it is
+abbrev pub FaultTells : Type 0
+FaultTells = (r r′ : Refusal) → faultOf r ≡ faultOf r′ → r ≡ r′
+
+-- the gate at index i is a record's first bad one: head and body pass, every gate before it passes all of its rows, and f is the fault
+-- of the first of its own rows that holds
+pub record FirstBadGate (s : List ℕ) (i : ℕ) (f : Fault) : Type 0 where
+  pub head : NoneHolds (headRows s)
+  pub below : i < count s
+  pub before : (j : ℕ) → j < i → NoneHolds (gateRows (qubits s) j (rawAt s j))
+  pub bad : FirstHolds (gateRows (qubits s) i (rawAt s i)) f
+
+-- a record is refused with the index i exactly where its first bad gate is the one at i
+abbrev pub IndexIsFirstBad : Type 0
+IndexIsFirstBad = (s : List ℕ) (i : ℕ) (f : Fault) → ((read s ≡ refused f) × (f .index ≡ some i)) ↔ FirstBadGate s i f
+
+-- adding to an accepted record is refused for a gate exactly where the record has room for one more and the new gate is bad: by the first
+-- of the new gate's rows that holds, with g for its index
+abbrev pub AddedGateIndex : Type 0
+AddedGateIndex =
+    (r : Raw) (buffer : List ℕ) (n i : ℕ) (gs : List Gate) (f : Fault)
+    → read buffer ≡ accepted n gs
+    → ((add r buffer .answer ≡ refuses f) × (f .index ≡ some i))
+    ↔ ((length gs < mostGates) × (i ≡ length gs) × FirstHolds (gateRows n (length gs) r) f)
+
+-- a record's own fault, its index with it, is that of every call that reads it: the check, adding to it, inverting it
+abbrev pub RecordsFaultIsKept : Type 0
+RecordsFaultIsKept =
+    (s : List ℕ) (f : Fault)
+    → read s ≡ refused f
+    → (checkAnswer (read s) ≡ refuses f)
+    × ((r : Raw) → add r s .answer ≡ refuses f)
+    × ((buffer : List ℕ) → inverse s buffer .answer ≡ refuses f)
+
+-- the numbers that a gate gets
+abbrev pub isOfAGate : ℕ → Bool
+isOfAGate k = eqb k 5 || eqb k 6 || eqb k 7
+
+-- is there an index?
+abbrev pub isThere : Option ℕ → Bool
+isThere none = false
+isThere (some i) = true
+
+-- a fault has an index exactly where its number is one that a gate gets
+abbrev pub IndexedAsAGate : Fault → Type 0
+IndexedAsAGate f = isThere (f .index) ≡ isOfAGate (f .number)
+
+-- so has every fault that a call on gate lists answers; calls on reports answer no index, with 5 neither
+pub record OnlyGatesHaveAnIndex : Type 0 where
+  pub reading : (s : List ℕ) (f : Fault) → read s ≡ refused f → IndexedAsAGate f
+  pub starting : (n : ℕ) (buffer : List ℕ) (f : Fault) → start n buffer .answer ≡ refuses f → IndexedAsAGate f
+  pub adding : (r : Raw) (buffer : List ℕ) (f : Fault) → add r buffer .answer ≡ refuses f → IndexedAsAGate f
+  pub inverting : (s buffer : List ℕ) (f : Fault) → inverse s buffer .answer ≡ refuses f → IndexedAsAGate f
+  pub writing-reports : (r : Report) (buffer : List ℕ) (f : Fault) → writeReport r buffer .answer ≡ refuses f → f .index ≡ none
+  pub reading-reports : (s : List ℕ) (f : Fault) → readReport s ≡ refuses f → f .index ≡ none

@@ -1,4 +1,4 @@
--- Reading a gate-list record: document 01, "Gate lists as bytes" and "Where a call is turned down".
+-- Reading a gate-list record: document 01, "Gate lists as bytes" and "Where a call is turned down", with the row 13 of document 02, item 1.
 -- The record stands at the start of the bytes; later bytes are ignored.
 -- Assumes nothing.
 use Prim.Native.Nat.{ℕ, suc, _+_, _*_}
@@ -38,6 +38,10 @@ raws (k ∷ []) = []
 raws (k ∷ a ∷ []) = []
 raws (k ∷ a ∷ b ∷ rest) = raw k a b ∷ raws rest
 
+-- the three bytes of the gate at index i of a record
+abbrev pub rawAt : List ℕ → ℕ → Raw
+rawAt s i = raw (getD s (size i) 0) (getD s (size i + 1) 0) (getD s (size i + 2) 0)
+
 -- the gates of a record
 abbrev pub gates : List ℕ → List Gate
 gates s = map gateOf (raws (body s))
@@ -47,17 +51,17 @@ abbrev pub badQubits : ℕ → Bool
 badQubits n = eqb n 0 || ltb mostQubits n
 
 -- the table, places "head" and "body"
-abbrev pub headRows : List ℕ → List Row
+abbrev pub headRows : List ℕ → List (Row Fault)
 headRows s =
     row 1 (ltb (length s) headSize)
     ∷ row 2 (not (marked listMark s))
     ∷ row 3 (badQubits (qubits s))
     ∷ row 4 (ltb mostGates (count s))
-    ∷ row 1 (ltb (length s) (size (count s)))
+    ∷ row 13 (ltb (length s) (size (count s)))
     ∷ []
 
 -- the table, places "each gate in turn" and "gate", for the gate at index i of a record on n qubits
-abbrev pub gateRows : ℕ → ℕ → Raw → List Row
+abbrev pub gateRows : ℕ → ℕ → Raw → List (Row Fault)
 gateRows n i r =
     gateRow i 5 (ltb lastKind (r .kind))
     ∷ gateRow i 7 (leb (r .kind) lastOneQubit && not (eqb (r .b) noQubit))
@@ -65,12 +69,12 @@ gateRows n i r =
     ∷ []
 
 -- each gate in turn, from index i on
-unfoldable pub allGateRows : ℕ → ℕ → List Raw → List Row
+unfoldable pub allGateRows : ℕ → ℕ → List Raw → List (Row Fault)
 allGateRows n i [] = []
 allGateRows n i (r ∷ rs) = gateRows n i r ++ allGateRows n (suc i) rs
 
 -- every check on a record: head, body, each gate in turn
-unfoldable pub recordRows : List ℕ → List Row
+unfoldable pub recordRows : List ℕ → List (Row Fault)
 recordRows s = headRows s ++ allGateRows (qubits s) 0 (raws (body s))
 
 -- what reading finds: n and the gates, or why the record is turned down

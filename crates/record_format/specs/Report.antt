@@ -6,7 +6,7 @@ use mathlib.Core.List.{List, [], _∷_, _++_}
 use lib.ListN.{length, getD}
 use lib.Dec.{ltb}
 use Rattle.record_format.specs.Format.{reportMark, reportSize, lastVerdict, twoBytes, fromBytes}
-use Rattle.record_format.specs.Row.{Row, row, first}
+use Rattle.record_format.specs.Row.{Fault, Row, row, first}
 use Rattle.record_format.specs.Reading.{marked}
 use Rattle.record_format.specs.Answer.{Answer, gives, fields}
 use Rattle.record_format.specs.Writing.{Outcome, faultOr, write}
@@ -45,7 +45,7 @@ unfoldable pub writeReport : Report → List ℕ → Outcome
 writeReport r buffer = write (row 5 (ltb lastVerdict (r .verdict)) ∷ []) (reportBytes r) buffer
 
 -- the report reader: 1, 2, 5
-abbrev pub reportRows : List ℕ → List Row
+abbrev pub reportRows : List ℕ → List (Row Fault)
 reportRows s =
     row 1 (ltb (length s) reportSize) ∷ row 2 (not (marked reportMark s)) ∷ row 5 (ltb lastVerdict (getD s 2 0)) ∷ []
 

@@ -22,12 +22,12 @@ encode n gs = headBytes n (length gs) ++ bodyBytes gs
 -- the values, unless a fault stops them
 abbrev pub faultOr : Option Fault → Answer → Answer
 faultOr none a = a
-faultOr (some f) a = refuses (f .number)
+faultOr (some f) a = refuses f
 
--- the check call: n and g, or the number
+-- the check call: n and g, or why the record is turned down
 abbrev pub checkAnswer : Reading → Answer
 checkAnswer (accepted n gs) = gives (n ∷ length gs ∷ [])
-checkAnswer (refused f) = refuses (f .number)
+checkAnswer (refused f) = refuses f
 
 -- gate reading: the 3g gate bytes, or nothing
 abbrev pub gatePart : List ℕ → Reading → List ℕ
@@ -48,10 +48,10 @@ pub record Outcome : Type 0 where
 -- returns its length
 abbrev pub outcome : Option Fault → List ℕ → List ℕ → Outcome
 outcome none new buffer = record { answer = gives (length new ∷ []); buffer = new ++ drop (length new) buffer }
-outcome (some f) new buffer = record { answer = refuses (f .number); buffer = buffer }
+outcome (some f) new buffer = record { answer = refuses f; buffer = buffer }
 
 -- a writer's checks are its own rows and then, last, number 11: the buffer is shorter than the new record
-unfoldable pub write : List Row → List ℕ → List ℕ → Outcome
+unfoldable pub write : List (Row Fault) → List ℕ → List ℕ → Outcome
 write rows new buffer = outcome (first (rows ++ row 11 (ltb (length buffer) (length new)) ∷ [])) new buffer
 
 -- start: an empty record

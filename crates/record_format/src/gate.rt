@@ -1,6 +1,5 @@
 // One gate's three bytes: kind, a, b.
 ghost use mathlib.Core.Path.{_≡_};
-ghost use Prim.Native.Nat.{ℕ};
 ghost use Rattle.record_format.specs.Gate.{raw};
 ghost use Rattle.record_format.specs.Row.{first};
 ghost use Rattle.record_format.specs.Reading.{gateRows};
@@ -34,36 +33,36 @@ pub const CZ: u8 = 9;
 
 pub const SWAP: u8 = 10;
 
-// What the check of one gate finds.
+// What the check of one gate, or of several in turn, finds.
 pub enum GateCheck {
     Good,
     Refused(Refusal),
 }
 
-// A gate's bytes against n qubits: 5, then 7, then 6.
-pub fn check_gate(n: usize, kind: u8, a: u8, b: u8) -> GateCheck
-    ensures { λ r. ⌜ ((i : ℕ) → gateFault i r ≡ first (gateRows n i (raw kind a b))) ⌝ }
+// The bytes of the gate at an index against n qubits: 5, then 7, then 6.
+pub fn check_gate(n: usize, gate: usize, kind: u8, a: u8, b: u8) -> GateCheck
+    ensures { λ r. ⌜ gateFault r ≡ first (gateRows n gate (raw kind a b)) ⌝ }
 {
     if kind > LAST_KIND {
-        return GateCheck::Refused(Refusal::UnknownKind);
+        return GateCheck::Refused(Refusal::UnknownKind { gate });
     }
     if kind <= LAST_ONE_QUBIT {
         if b != NO_QUBIT {
-            return GateCheck::Refused(Refusal::SpareByte);
+            return GateCheck::Refused(Refusal::SpareByte { gate });
         }
         if n <= a as usize {
-            return GateCheck::Refused(Refusal::QubitRange);
+            return GateCheck::Refused(Refusal::QubitRange { gate });
         }
         return GateCheck::Good;
     }
     if n <= a as usize {
-        return GateCheck::Refused(Refusal::QubitRange);
+        return GateCheck::Refused(Refusal::QubitRange { gate });
     }
     if n <= b as usize {
-        return GateCheck::Refused(Refusal::QubitRange);
+        return GateCheck::Refused(Refusal::QubitRange { gate });
     }
     if a == b {
-        return GateCheck::Refused(Refusal::QubitRange);
+        return GateCheck::Refused(Refusal::QubitRange { gate });
     }
     GateCheck::Good
 }

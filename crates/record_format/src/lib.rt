@@ -24,9 +24,9 @@ pub const LAST_KIND: u8 = gate::SWAP;
 // b of a gate on one qubit.
 pub const NO_QUBIT: u8 = 255;
 
-// Why a call is turned down. specs/Answer.antt gives each case document 01's number.
+// Why a call is turned down. specs/Answer.antt gives each case the table's number and the index of its gate.
 pub enum Refusal {
-    // 1: fewer bytes than the record has
+    // 1: fewer than 5 bytes, or than the 12 of a report
     Short,
     // 2: another mark
     WrongMark,
@@ -34,12 +34,16 @@ pub enum Refusal {
     QubitCount,
     // 4: more than 512 gates
     GateCount,
-    // 5: a gate's kind is above 10, or a verdict above 2
-    UnknownKind,
-    // 6: a qubit is not below n, or a two-qubit gate names one qubit twice
-    QubitRange,
-    // 7: b of a one-qubit gate is not 255
-    SpareByte,
+    // 13: fewer than 5 + 3g bytes
+    BodyShort,
+    // 5: the kind of the gate at this index, from 0, is above 10
+    UnknownKind { gate: usize },
+    // 7: b of the one-qubit gate at this index is not 255
+    SpareByte { gate: usize },
+    // 6: a qubit of the gate at this index is not below n, or its two qubits are one
+    QubitRange { gate: usize },
+    // 5: a report's verdict is above 2
+    UnknownVerdict,
     // 11: the buffer is shorter than the new record
     BufferShort,
 }
@@ -83,9 +87,11 @@ pub fn number(r: Refusal) -> u8
         Refusal::WrongMark => 2,
         Refusal::QubitCount => 3,
         Refusal::GateCount => 4,
-        Refusal::UnknownKind => 5,
-        Refusal::QubitRange => 6,
-        Refusal::SpareByte => 7,
+        Refusal::BodyShort => 13,
+        Refusal::UnknownKind { gate: _ } => 5,
+        Refusal::SpareByte { gate: _ } => 7,
+        Refusal::QubitRange { gate: _ } => 6,
+        Refusal::UnknownVerdict => 5,
         Refusal::BufferShort => 11,
     }
 }
@@ -121,10 +127,4 @@ pub fn has_mark(s: &[u8], mark: [u8; 2]) -> bool
     } else {
         false
     }
-}
-
-// What the check of a record's gates finds; the index is the first bad gate's.
-pub enum GatesCheck {
-    Good,
-    Refused { refusal: Refusal, gate: usize },
 }

@@ -6,11 +6,10 @@ ghost use Rattle.record_format.specs.Format.{headSize, gateSize};
 ghost use Rattle.record_format.specs.Row.{first};
 ghost use Rattle.record_format.specs.Reading.{raws, size, allGateRows, read};
 ghost use Rattle.record_format.specs.Writing.{checkAnswer, gatePart, gatesAt};
-ghost use Rattle.record_format.specs.Answer.{checkedAnswer};
-ghost use Rattle.record_format.specs.Inner.{headAnswer, gatesFault};
+ghost use Rattle.record_format.specs.Answer.{checkedAnswer, gateFault};
+ghost use Rattle.record_format.specs.Inner.{headAnswer};
 use record_format::Checked;
 use record_format::GATE_SIZE;
-use record_format::GatesCheck;
 use record_format::HEAD_SIZE;
 use record_format::Refusal;
 use record_format::from_bytes;
@@ -28,7 +27,7 @@ pub const MOST_QUBITS: usize = 16;
 // g is from 0 to this.
 pub const MOST_GATES: usize = 512;
 
-// Head and body: 1, 2, 3, 4, 1.
+// Head and body: 1, 2, 3, 4, 13.
 fn check_head(s: &[u8]) -> Checked
     ensures { λ r. ⌜ checkedAnswer r ≡ headAnswer (now (s .entry)) ⌝ }
 {
@@ -50,28 +49,28 @@ fn check_head(s: &[u8]) -> Checked
         return Checked::Refused(Refusal::GateCount);
     }
     if s.len() < HEAD_SIZE + GATE_SIZE * g {
-        return Checked::Refused(Refusal::Short);
+        return Checked::Refused(Refusal::BodyShort);
     }
     Checked::Accepted { n, g }
 }
 
 // Each gate in turn: the first bad one's first of 5, 7, 6, with its index.
-fn check_gates(s: &[u8], n: usize, g: usize) -> GatesCheck
+fn check_gates(s: &[u8], n: usize, g: usize) -> GateCheck
     requires { ⌜ size g ≤ length (now s) ⌝ }
-    ensures { λ r. ⌜ gatesFault r ≡ first (allGateRows n 0 (raws (take (gateSize * g) (drop headSize (now (s .entry)))))) ⌝ }
+    ensures { λ r. ⌜ gateFault r ≡ first (allGateRows n 0 (raws (take (gateSize * g) (drop headSize (now (s .entry)))))) ⌝ }
 {
     let mut i = 0;
     while i < g {
         let at = HEAD_SIZE + GATE_SIZE * i;
-        match check_gate(n, s[at], s[at + 1], s[at + 2]) {
+        match check_gate(n, i, s[at], s[at + 1], s[at + 2]) {
             GateCheck::Good => {}
             GateCheck::Refused(refusal) => {
-                return GatesCheck::Refused { refusal, gate: i };
+                return GateCheck::Refused(refusal);
             }
         }
         i += 1;
     }
-    GatesCheck::Good
+    GateCheck::Good
 }
 
 // The qubits and gates of the record at the start of s, or why it is turned down.
@@ -81,8 +80,8 @@ pub fn check(s: &[u8]) -> Checked
     match check_head(s) {
         Checked::Refused(refusal) => Checked::Refused(refusal),
         Checked::Accepted { n, g } => match check_gates(s, n, g) {
-            GatesCheck::Good => Checked::Accepted { n, g },
-            GatesCheck::Refused { refusal, gate: _ } => Checked::Refused(refusal),
+            GateCheck::Good => Checked::Accepted { n, g },
+            GateCheck::Refused(refusal) => Checked::Refused(refusal),
         },
     }
 }

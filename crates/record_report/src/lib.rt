@@ -27,7 +27,7 @@ pub fn write_report(buffer: &mut [u8], report: Report) -> Written
 {
     let verdict = report.verdict;
     if verdict > LAST_VERDICT {
-        return Written::Refused(Refusal::UnknownKind);
+        return Written::Refused(Refusal::UnknownVerdict);
     }
     if buffer.len() < REPORT_SIZE {
         return Written::Refused(Refusal::BufferShort);
@@ -61,7 +61,7 @@ pub fn read_report(s: &[u8]) -> ReportRead
     }
     let verdict = s[2];
     if verdict > LAST_VERDICT {
-        return ReportRead::Refused(Refusal::UnknownKind);
+        return ReportRead::Refused(Refusal::UnknownVerdict);
     }
     ReportRead::Fields(Report {
         verdict,

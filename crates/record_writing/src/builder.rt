@@ -55,7 +55,7 @@ fn append(buffer: &mut [u8], n: usize, g: usize, kind: u8, a: u8, b: u8) -> Writ
     Written::Length(end + GATE_SIZE)
 }
 
-// One gate at the end of the record that stands in the buffer: the record's number, 4, the new gate's 5, 7, 6, then 11.
+// One gate at the end of the record that stands in the buffer: the record's own fault, 4, the new gate's 5, 7, 6 with g for its index, then 11.
 pub fn add(buffer: &mut [u8], kind: u8, a: u8, b: u8) -> Written
     ensures answers { λ r. ⌜ writtenAnswer r ≡ add (raw kind a b) (now (buffer .entry)) .answer ⌝ }
     ensures leaves { λ _. ⌜ now (buffer .exit) ≡ add (raw kind a b) (now (buffer .entry)) .buffer ⌝ }
@@ -66,7 +66,7 @@ pub fn add(buffer: &mut [u8], kind: u8, a: u8, b: u8) -> Written
             if g == MOST_GATES {
                 return Written::Refused(Refusal::GateCount);
             }
-            match check_gate(n, kind, a, b) {
+            match check_gate(n, g, kind, a, b) {
                 GateCheck::Refused(refusal) => Written::Refused(refusal),
                 GateCheck::Good => append(buffer, n, g, kind, a, b),
             }

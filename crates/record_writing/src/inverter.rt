@@ -32,7 +32,7 @@ fn write_inverse(s: &[u8], g: usize, buffer: &mut [u8])
     }
 }
 
-// The inverse of the record at the start of s, at the front of the buffer: the record's number, then 11.
+// The inverse of the record at the start of s, at the front of the buffer: the record's own fault, then 11.
 pub fn inverse(s: &[u8], buffer: &mut [u8]) -> Written
     ensures answers { λ r. ⌜ writtenAnswer r ≡ inverse (now (s .entry)) (now (buffer .entry)) .answer ⌝ }
     ensures leaves { λ _. ⌜ now (buffer .exit) ≡ inverse (now (s .entry)) (now (buffer .entry)) .buffer ⌝ }

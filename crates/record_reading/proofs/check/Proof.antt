@@ -6,8 +6,8 @@ use mathlib.Core.Option.{none}
 use mathlib.Core.List.{[], _∷_}
 use borrow.Author.Needs.{needs}
 use native.Mathlib.Omega.{arith}
-use Rattle.record_format.specs.Answer.{gives, checkedAnswer}
-use Rattle.record_format.specs.Inner.{headAnswer, gatesFault}
+use Rattle.record_format.specs.Answer.{gives, checkedAnswer, gateFault}
+use Rattle.record_format.specs.Inner.{headAnswer}
 use Rattle.record_format.proofs.Reading.{head-gives, head-refuses, check-decides}
 use Rattle.record_reading.proofs.check.Statement.{statement}
 use Rattle.record_reading.proofs.check.Tie as tie
@@ -46,13 +46,13 @@ returns-2 : tie.Need-returns-2
 returns-2 c =
     let head = c .before .before .before .before in
     check-decides (head .before .before .before .before .args .s .now) _ _ none (head-said head)
-    (sym (ap gatesFault (c .enum-told .given .1)) ∙ c .before .before .check-gates .ensures)
+    (sym (ap gateFault (c .enum-told .given .1)) ∙ c .before .before .check-gates .ensures)
 
 returns-3 : tie.Need-returns-3
 returns-3 c =
     let head = c .before .before .before .before .before in
     check-decides (head .before .before .before .before .args .s .now) _ _ _ (head-said head)
-    (sym (ap gatesFault (c .before .refusal2 .given .1)) ∙ c .before .before .before .check-gates .ensures)
+    (sym (ap gateFault (c .before .refusal2 .given .1)) ∙ c .before .before .before .check-gates .ensures)
 
 pub check-spec : {M : Type 1} → statement M
 check-spec =

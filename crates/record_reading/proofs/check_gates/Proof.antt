@@ -8,8 +8,7 @@ use native.Mathlib.Nat.{sub-zero}
 use borrow.Author.Needs.{needs}
 use Rattle.record_format.specs.Row.{first}
 use Rattle.record_format.specs.Reading.{raws, allGateRows}
-use Rattle.record_format.specs.Answer.{gateFault}
-use Rattle.record_format.proofs.Reading.{rowsFrom, rowsFrom-end, pass-good, stop-bad}
+use Rattle.record_format.proofs.Reading.{rowsFrom, rowsFrom-end, pass-checked, stop-checked}
 use Rattle.record_reading.proofs.check_gates.Statement.{statement}
 use Rattle.record_reading.proofs.check_gates.Tie as tie
 
@@ -57,10 +56,10 @@ returns c =
     let turn = c .before .before .before .before .before .before .before in
     let a = turn .before .before .before .args in
     let i = turn .before .loop .i in
-    let bad = sym (c .before .before .before .check-gate .ensures i) ∙ ap (gateFault i) (c .before .refusal .given .1) in
-    sym
-    (turn .before .loop .inv .1
-    ∙ stop-bad (a .s .now) (a .n) (a .g) i _ (turn .loop-test .taken) (turn .before .before .before .pre) bad)
+    let stopped =
+    stop-checked (a .s .now) (a .n) (a .g) i _ (turn .loop-test .taken) (turn .before .before .before .pre)
+    (c .before .before .before .check-gate .ensures) (c .before .refusal .given .1) in
+    sym (turn .before .loop .inv .1 ∙ stopped)
 
 add-i : tie.Need-add-i Inv-loop μ-loop
 add-i c = search needs
@@ -73,8 +72,9 @@ loop-again c =
     let turn = c .before .before .before .before .before .before in
     let a = turn .before .before .before .args in
     let i = turn .before .loop .i in
-    let good = sym (c .before .before .check-gate .ensures i) ∙ ap (gateFault i) (c .enum-told .given .1) in
-    let passed = pass-good (a .s .now) (a .n) (a .g) i (turn .loop-test .taken) (turn .before .before .before .pre) good in
+    let passed =
+    pass-checked (a .s .now) (a .n) (a .g) i _ (turn .loop-test .taken) (turn .before .before .before .pre)
+    (c .before .before .check-gate .ensures) (c .enum-told .given .1) in
     (search needs, turn .before .loop .inv .1 ∙ passed)
 
 returns-2 : tie.Need-returns-2 Inv-loop μ-loop

@@ -37,7 +37,7 @@ returns-2 : tie.Need-returns-2
 unfolding read
 returns-2 c =
     let s = c .before .before .before .before .before .args .s .now in
-    rw (refuses-by s _ _ (c .before .before .before .check .ensures) (c .before .enum-told .given .1) .1) (refl, refl)
+    rw (refuses-by s _ _ (c .before .before .before .check .ensures) (c .before .enum-told .given .1)) (refl, refl)
 
 pub gates-spec : {M : Type 1} → statement M
 gates-spec =

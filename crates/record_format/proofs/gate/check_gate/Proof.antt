@@ -8,15 +8,15 @@ use Rattle.record_format.proofs.gate.check_gate.Tie as tie
 
 returns : tie.Need-returns
 unfolding first
-returns c i = simp (lt-ltb _ _ (c .if1 .taken))
+returns c = simp (lt-ltb _ _ (c .if1 .taken))
 
 returns-2 : tie.Need-returns-2
 unfolding first
-returns-2 c i = simp (le-ltb _ _ (c .before .before .if1 .left), le-leb _ _ (c .before .if2 .taken), ne-eqb _ _ (c .if3 .taken))
+returns-2 c = simp (le-ltb _ _ (c .before .before .if1 .left), le-leb _ _ (c .before .if2 .taken), ne-eqb _ _ (c .if3 .taken))
 
 returns-3 : tie.Need-returns-3
 unfolding first
-returns-3 c i =
+returns-3 c =
     simp (
       le-ltb _ _ (c .before .before .before .if1 .left),
       le-leb _ _ (c .before .before .if2 .taken),
@@ -26,7 +26,7 @@ returns-3 c i =
 
 returns-4 : tie.Need-returns-4
 unfolding first
-returns-4 c i =
+returns-4 c =
     simp (
       le-ltb _ _ (c .before .before .before .if1 .left),
       le-leb _ _ (c .before .before .if2 .taken),
@@ -37,11 +37,11 @@ returns-4 c i =
 
 returns-5 : tie.Need-returns-5
 unfolding first
-returns-5 c i = simp (le-ltb _ _ (c .before .before .if1 .left), lt-leb _ _ (c .before .if2 .left), le-leb _ _ (c .if5 .taken))
+returns-5 c = simp (le-ltb _ _ (c .before .before .if1 .left), lt-leb _ _ (c .before .if2 .left), le-leb _ _ (c .if5 .taken))
 
 returns-6 : tie.Need-returns-6
 unfolding first
-returns-6 c i =
+returns-6 c =
     simp (
       le-ltb _ _ (c .before .before .before .if1 .left),
       lt-leb _ _ (c .before .before .if2 .left),
@@ -52,7 +52,7 @@ returns-6 c i =
 
 returns-7 : tie.Need-returns-7
 unfolding first
-returns-7 c i =
+returns-7 c =
     simp (
       le-ltb _ _ (c .before .before .before .before .if1 .left),
       lt-leb _ _ (c .before .before .before .if2 .left),
@@ -64,7 +64,7 @@ returns-7 c i =
 
 returns-8 : tie.Need-returns-8
 unfolding first
-returns-8 c i =
+returns-8 c =
     simp (
       le-ltb _ _ (c .before .before .before .before .if1 .left),
       lt-leb _ _ (c .before .before .before .if2 .left),
