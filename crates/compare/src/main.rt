@@ -4,8 +4,8 @@
 mod reading;
 
 ghost use mathlib.Core.Path.{_≡_};
-ghost use Rattle.result_line.specs.Line.{lineOf, AtFront};
-ghost use Rattle.compare.specs.Says.{wereRead, programSays};
+ghost use Rattle.result_line.specs.Line.{AtFront};
+ghost use Rattle.compare.specs.Says.{wereRead, programLine};
 use comparison::Answer;
 use comparison::PLACES;
 use comparison::Refusal;
@@ -46,7 +46,8 @@ fn were_read(answer: Answer) -> bool
     match answer {
         Answer::Compared(_) => true,
         Answer::Refused(refusal) => match refusal {
-            Refusal::List(_) => false,
+            Refusal::First(_) => false,
+            Refusal::Second(_) => false,
             Refusal::QubitsDiffer => true,
             Refusal::TooManyVariables => true,
             Refusal::WorkspaceShort => true,
@@ -71,7 +72,7 @@ fn print(line: &[u8]) {
 
 // The line of what was answered, or of number 12: behind the lists' own numbers, before those of the pair.
 fn write_line(answer: Answer, follow: bool, line: &mut [u8; LINE_SIZE]) -> usize
-    ensures { λ r. ⌜ AtFront (lineOf (programSays follow answer)) (now (line .entry)) r (now (line .exit)) ⌝ }
+    ensures { λ r. ⌜ AtFront (programLine follow answer) (now (line .entry)) r (now (line .exit)) ⌝ }
 {
     if !follow {
         return write_answer(answer, line);

@@ -7,7 +7,7 @@ ghost use lib.Dec.{ltb};
 ghost use Rattle.record_format.specs.Reading.{read};
 ghost use Rattle.phase_sum_meaning.specs.Room.{places};
 ghost use Rattle.comparison_types.specs.Call.{workspaceRows, pairFault};
-ghost use Rattle.comparison_types.specs.Inner.{AcceptedWith, numberIn, pairNumber, PairRead};
+ghost use Rattle.comparison_types.specs.Inner.{AcceptedWith, foundFault, PairRead};
 use comparison_types::PairCheck;
 use comparison_types::Refusal;
 use phase_sum_terms::counting::h_gates;
@@ -24,7 +24,7 @@ pub const MOST_VARIABLES: usize = 64;
 // 8 and 9, for two accepted lists on n and m qubits, of g and h gates.
 fn check_sizes(first: &[u8], second: &[u8], n: usize, m: usize, g: usize, h: usize) -> PairCheck
     requires { ⌜ AcceptedWith n g (now first) × AcceptedWith m h (now second) ⌝ }
-    ensures number { λ r. ⌜ pairNumber r ≡ numberIn (pairFault (read (now (first .entry))) (read (now (second .entry))) []) ⌝ }
+    ensures fault { λ r. ⌜ foundFault r ≡ pairFault (read (now (first .entry))) (read (now (second .entry))) [] ⌝ }
     ensures found { λ r. ⌜ PairRead r (now (first .entry)) (now (second .entry)) ⌝ }
 {
     if n != m {
@@ -38,13 +38,13 @@ fn check_sizes(first: &[u8], second: &[u8], n: usize, m: usize, g: usize, h: usi
 
 // The checks on two records: the first list, the second, 8 and 9. Each list is read once, and what was found is handed on.
 pub fn check_pair(first: &[u8], second: &[u8]) -> PairCheck
-    ensures number { λ r. ⌜ pairNumber r ≡ numberIn (pairFault (read (now (first .entry))) (read (now (second .entry))) []) ⌝ }
+    ensures fault { λ r. ⌜ foundFault r ≡ pairFault (read (now (first .entry))) (read (now (second .entry))) [] ⌝ }
     ensures found { λ r. ⌜ PairRead r (now (first .entry)) (now (second .entry)) ⌝ }
 {
     match check(first) {
-        Checked::Refused(refusal) => PairCheck::Refused(Refusal::List(refusal)),
+        Checked::Refused(refusal) => PairCheck::Refused(Refusal::First(refusal)),
         Checked::Accepted { n, g } => match check(second) {
-            Checked::Refused(refusal) => PairCheck::Refused(Refusal::List(refusal)),
+            Checked::Refused(refusal) => PairCheck::Refused(Refusal::Second(refusal)),
             Checked::Accepted { n: m, g: h } => check_sizes(first, second, n, m, g, h),
         },
     }
@@ -62,7 +62,7 @@ pub fn workspace_short(words: usize, bytes: usize) -> bool
 
 // All the checks on a call: those on the two records, then that on the workspaces.
 pub fn check_call(first: &[u8], second: &[u8], words: usize, bytes: usize) -> PairCheck
-    ensures number { λ r. ⌜ pairNumber r ≡ numberIn (pairFault (read (now (first .entry))) (read (now (second .entry))) (workspaceRows words bytes)) ⌝ }
+    ensures fault { λ r. ⌜ foundFault r ≡ pairFault (read (now (first .entry))) (read (now (second .entry))) (workspaceRows words bytes) ⌝ }
     ensures found { λ r. ⌜ PairRead r (now (first .entry)) (now (second .entry)) ⌝ }
 {
     match check_pair(first, second) {

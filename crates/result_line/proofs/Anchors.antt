@@ -4,8 +4,9 @@ use mathlib.Core.Path.{_≡_, refl}
 use mathlib.Core.List.{[], _∷_}
 use lib.ListN.{length}
 use Rattle.comparison_meaning.specs.Verdict.{equal, different, undecided}
-use Rattle.comparison_types.specs.Call.{says, refuses}
-use Rattle.result_line.specs.Line.{digits, fields, lineOf}
+use Rattle.record_format.specs.Row.{fault, faultAt}
+use Rattle.comparison_types.specs.Call.{inFirst, inSecond, says, refuses}
+use Rattle.result_line.specs.Line.{digits, fields, refusedLine, lineOf}
 
 -- document 01's example: `equal 0 0 1 1 1 0 0` and a newline
 pub example-line :
@@ -15,9 +16,15 @@ unfolding digits fields
 example-line = refl
 
 -- `refused 12` and a newline
-pub refused-line : lineOf (refuses 12) ≡ 114 ∷ 101 ∷ 102 ∷ 117 ∷ 115 ∷ 101 ∷ 100 ∷ 32 ∷ 49 ∷ 50 ∷ 10 ∷ []
+pub refused-line : refusedLine 12 ≡ 114 ∷ 101 ∷ 102 ∷ 117 ∷ 115 ∷ 101 ∷ 100 ∷ 32 ∷ 49 ∷ 50 ∷ 10 ∷ []
 unfolding digits fields
 refused-line = refl
+
+-- the line of a bad gate is that of its number, whichever list and gate it is, and so is that of a short body
+pub number-alone :
+    (lineOf (refuses (inFirst (faultAt 0 6))) ≡ refusedLine 6)
+    × ((lineOf (refuses (inSecond (faultAt 511 6))) ≡ refusedLine 6) × (lineOf (refuses (inSecond (fault 13))) ≡ refusedLine 13))
+number-alone = (refl, (refl, refl))
 
 -- seven different numbers in their order: `different 0 3 12 345 6789 65535 255` and a newline
 pub ordered-line :

@@ -7,7 +7,7 @@ use mathlib.Core.List.{List, [], _∷_, _++_}
 use lib.Dec.{ltb}
 use lib.ListN.{length, take, drop}
 use Rattle.comparison_meaning.specs.Verdict.{Verdict, equal, different, undecided}
-use Rattle.comparison_types.specs.Call.{Said, says, refuses}
+use Rattle.comparison_types.specs.Call.{Said, says, refuses, numberIn}
 
 -- the byte of a decimal digit: 48 is `0`
 abbrev pub digit : ℕ → ℕ
@@ -50,13 +50,18 @@ verdictWord undecided = 117 ∷ 110 ∷ 100 ∷ 101 ∷ 99 ∷ 105 ∷ 100 ∷ 1
 abbrev pub refusedWord : List ℕ
 refusedWord = 114 ∷ 101 ∷ 102 ∷ 117 ∷ 115 ∷ 101 ∷ 100 ∷ []
 
--- the line of what a comparison says: the verdict, the two inputs and the five counts, or `refused` and the number
+-- the line of a refusal: `refused` and the number, no more
+abbrev pub refusedLine : ℕ → List ℕ
+refusedLine k = lineWith refusedWord (k ∷ [])
+
+-- the line of what a comparison says: the verdict, the two inputs and the five counts, or that of the refusal's number; neither the list
+-- nor the gate's index is shown
 abbrev pub lineOf : Said → List ℕ
 lineOf (says r) =
     lineWith
     (verdictWord (r .verdict))
     (r .first ∷ r .second ∷ r .pins ∷ r .sums ∷ r .turns ∷ r .joins ∷ r .left ∷ [])
-lineOf (refuses k) = lineWith refusedWord (k ∷ [])
+lineOf (refuses f) = refusedLine (numberIn f)
 
 -- a text stands at the front of a buffer: r is its length, old the buffer before and new the buffer after; the bytes behind it are as
 -- they were. The last two parts follow from the first two; they stand here so that a caller's `&line[..r]` asks for no proof

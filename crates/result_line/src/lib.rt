@@ -4,8 +4,8 @@ ghost use mathlib.Core.Path.{_≡_};
 ghost use Prim.Native.Nat.{_+_, _*_, _≤_, _<_};
 ghost use mathlib.Core.List.{[], _∷_};
 ghost use lib.ListN.{length};
-ghost use Rattle.comparison_types.specs.Call.{refuses, saidOf, resultOf, says};
-ghost use Rattle.result_line.specs.Line.{digit as Line·digit, decimal, field, fields, lineOf, lineWith, AtFront};
+ghost use Rattle.comparison_types.specs.Call.{saidOf, resultOf, says};
+ghost use Rattle.result_line.specs.Line.{digit as Line·digit, decimal, field, fields, refusedLine, lineOf, lineWith, AtFront};
 ghost use Rattle.result_line.specs.Inner.{Wrote};
 use comparison::Answer;
 use comparison::Outcome;
@@ -112,7 +112,7 @@ fn write_outcome(o: Outcome, line: &mut [u8; LINE_SIZE]) -> usize
 
 // The line of a refusal by its number. Returns the line's length; the bytes behind it stay as they were.
 pub fn write_refusal(number: u8, line: &mut [u8; LINE_SIZE]) -> usize
-    ensures { λ r. ⌜ AtFront (lineOf (refuses number)) (now (line .entry)) r (now (line .exit)) ⌝ }
+    ensures { λ r. ⌜ AtFront (refusedLine number) (now (line .entry)) r (now (line .exit)) ⌝ }
 {
     let numbers = [number as u16];
     put_line(line, b"refused", &numbers)

@@ -1,4 +1,4 @@
--- `compare::write_line` meets its contract: each `return` is a case of `programSays`.
+-- `compare::write_line` meets its contract: each `return` is a case of `programLine`.
 -- Assumes nothing.
 use borrow.Author.Needs.{needs}
 use borrow.Author.Tests.{not-true, not-false}

@@ -1,4 +1,4 @@
--- `comparison_checking::check_call` meets its contract: a pair that the checks on the records refuse is refused by the same number, and for
+-- `comparison_checking::check_call` meets its contract: a pair that the checks on the records refuse is refused by the same fault, and for
 -- another the workspaces decide.
 -- Assumes nothing.
 use mathlib.Core.Path.{_≡_, sym, _∙_}
@@ -6,8 +6,7 @@ use mathlib.Core.Bool.{Bool, true, false, cond}
 use mathlib.Core.Option.{none, some}
 use borrow.Author.Needs.{needs}
 use Rattle.record_format.specs.Reading.{read}
-use Rattle.comparison_types.specs.Call.{workspaceRows, pairFault}
-use Rattle.comparison_types.specs.Inner.{numberIn}
+use Rattle.comparison_types.specs.Call.{ofPair, workspaceRows, pairFault}
 use Rattle.comparison_types.proofs.PairLaws.{call-refused, call-decides}
 use Rattle.comparison_checking.proofs.check_call.Statement.{statement}
 use Rattle.comparison_checking.proofs.check_call.Tie as tie
@@ -27,8 +26,8 @@ workspace-short-requires c κs = search needs
 -- behind a pair that passed the workspaces decide
 decided : (c : tie.After-workspace-short) →
     (let args = c .before .before .before .before .before .before .before .args in
-    (b : Bool) → c .workspace-short .result ≡ b → cond b (some 10) none
-    ≡ numberIn (pairFault (read (args .first .now)) (read (args .second .now)) (workspaceRows (args .words) (args .bytes))))
+    (b : Bool) → c .workspace-short .result ≡ b → cond b (some (ofPair 10)) none
+    ≡ pairFault (read (args .first .now)) (read (args .second .now)) (workspaceRows (args .words) (args .bytes)))
 decided c b is =
     let at-n = c .before .before in
     let args = at-n .before .before .before .before .before .args in

@@ -4,7 +4,7 @@
 use mathlib.Core.List.{[]}
 use borrow.Author.Needs.{needs}
 use Rattle.comparison_types.specs.Inner.{AcceptedWith}
-use Rattle.comparison_types.proofs.PairLaws.{accepted-with, refused-by, first-refused, second-refused}
+use Rattle.comparison_types.proofs.PairLaws.{accepted-with, first-refused, second-refused}
 use Rattle.comparison_checking.proofs.check_pair.Statement.{statement}
 use Rattle.comparison_checking.proofs.check_pair.Tie as tie
 
@@ -44,23 +44,17 @@ returns : tie.Need-returns
 returns c =
     let at-check = c .before .before .before in
     let start = at-check .before .before .before in
-    let (f, reads, same) =
-    refused-by (start .args .first .now) _ _ (at-check .check .ensures) (c .before .refusal .given .1) in
-    (first-refused (start .args .first .now) (start .args .second .now) [] _ f reads same, tt)
+    (first-refused (start .args .first .now) (start .args .second .now) [] _ _ (at-check .check .ensures) (c .before .refusal .given .1), tt)
 
 returns-2 : tie.Need-returns-2
 returns-2 c =
     let at-check2 = c .before .before .before in
     let at-n = at-check2 .before .before in
     let start = at-n .before .before .before .before .before in
-    let (f, reads, same) =
-    refused-by (start .args .second .now) _ _ (at-check2 .check2 .ensures) (c .before .refusal2 .given .1) in (
-      second-refused (start .args .first .now) (start .args .second .now) [] _ _ _ f
-          (first-accepted (at-n))
-          reads
-          same,
-      tt,
-    )
+    let fault =
+    second-refused (start .args .first .now) (start .args .second .now) [] _ _ (first-accepted at-n) (at-check2 .check2 .ensures)
+    (c .before .refusal2 .given .1) in
+    (fault, tt)
 
 returns-3 : tie.Need-returns-3
 returns-3 c = c .check-sizes .ensures

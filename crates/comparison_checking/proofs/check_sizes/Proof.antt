@@ -9,7 +9,6 @@ use Rattle.record_format.specs.Row.{first}
 use Rattle.amplitude.specs.Circuit.{hGates}
 use Rattle.phase_sum_meaning.specs.Room.{mostVariables}
 use Rattle.phase_sum_types.specs.Unmerged.{gatesIn}
-use Rattle.comparison_types.specs.Inner.{numberIn}
 use Rattle.comparison_types.proofs.PairLaws.{whole-of, gates-of, small, differ, too-many, below-decide}
 use Rattle.comparison_checking.proofs.check_sizes.Statement.{statement}
 use Rattle.comparison_checking.proofs.check_sizes.Tie as tie
@@ -76,7 +75,7 @@ returns-3 c =
     let same = c .before .before .before .before .before .if1 .left in
     let sizes = counted (c .before) in
     let few : start (c .before) .args .n + (hGates (pre .0 .gates) + hGates (pre .1 .gates)) ≤ mostVariables = omega arith in
-    (ap numberIn (sym (below-decide [] (pre .0) (pre .1) same few)), (pre .0, rw same (pre .1)))
+    (sym (below-decide [] (pre .0) (pre .1) same few), (pre .0, rw same (pre .1)))
 
 pub check-sizes-spec : {M : Type 1} → statement M
 check-sizes-spec =
