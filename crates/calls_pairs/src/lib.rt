@@ -2,6 +2,7 @@
 // begin.
 use calls_lists::MOST_BYTES;
 use calls_lists::bytes_of;
+use calls_lists::refusals;
 use calls_text::Bytes;
 use calls_text::are_below;
 use calls_text::are_numbers;
@@ -12,6 +13,7 @@ use calls_text::print;
 use calls_text::workspaces;
 use comparison::Answer;
 use comparison::Outcome;
+use comparison::Refusal;
 
 // A verdict's word, by its number.
 fn verdict(number: u8) {
@@ -31,11 +33,27 @@ fn outcome(o: Outcome) {
     print::result(r.first, r.second, counts);
 }
 
+// `first` or `second`, and the gate of that list's refusal.
+fn in_list(list: &[u8], r: record_format::Refusal) {
+    print::text(list);
+    refusals::show_gate(r);
+}
+
+// `refused`, the number and, where one of the lists is refused, which one and the gate.
+fn refusal(r: Refusal) {
+    print::refused(comparison::number(r));
+    match r {
+        Refusal::First(list) => in_list(b" first", list),
+        Refusal::Second(list) => in_list(b" second", list),
+        _ => {}
+    }
+}
+
 // compare: the result line, or the refusal.
 fn compare(first: &[u8], second: &[u8], sets: &mut [u64], coeffs: &mut [u8]) {
     match comparison::compare(first, second, sets, coeffs) {
         Answer::Compared(o) => outcome(o),
-        Answer::Refused(r) => print::refused(comparison::number(r)),
+        Answer::Refused(r) => refusal(r),
     }
 }
 

@@ -1,5 +1,6 @@
 // Rows of calls that read records and reports.
 use crate::names;
+use calls_lists::refusals;
 use calls_text::are_below;
 use calls_text::are_numbers;
 use calls_text::number;
@@ -23,7 +24,7 @@ fn check(record: &[u8]) {
             print::number(n);
             print::number(g);
         }
-        Checked::Refused(r) => print::refused(records::number(r)),
+        Checked::Refused(r) => refusals::show(r),
     }
 }
 
@@ -45,19 +46,20 @@ fn fields(r: Report) {
 fn read_report(report: &[u8]) {
     match records::read_report(report) {
         ReportRead::Fields(r) => fields(r),
-        ReportRead::Refused(r) => print::refused(records::number(r)),
+        ReportRead::Refused(r) => refusals::show(r),
     }
 }
 
-// check_gate, of the numbers n, kind, a and b: `good`, or the refusal.
+// check_gate, of the numbers n, index, kind, a and b: `good`, or the refusal.
 fn check_gate(numbers: &[u8]) {
     let n = number(numbers, 0);
-    let kind = byte_at(numbers, 1);
-    let a = byte_at(numbers, 2);
-    let b = byte_at(numbers, 3);
-    match gate::check_gate(n, kind, a, b) {
+    let index = number(numbers, 1);
+    let kind = byte_at(numbers, 2);
+    let a = byte_at(numbers, 3);
+    let b = byte_at(numbers, 4);
+    match gate::check_gate(n, index, kind, a, b) {
         GateCheck::Good => print::text(b"good"),
-        GateCheck::Refused(r) => print::refused(records::number(r)),
+        GateCheck::Refused(r) => refusals::show(r),
     }
 }
 
@@ -66,10 +68,10 @@ fn is_well(call: u8, numbers: &[u8]) -> bool {
     if call != names::CHECK_GATE {
         return numbers.len() == 0;
     }
-    if !are_numbers(numbers, 4) {
+    if !are_numbers(numbers, 5) {
         return false;
     }
-    are_below(numbers, 1, 4, 256)
+    are_below(numbers, 2, 5, 256)
 }
 
 // A call that reads.

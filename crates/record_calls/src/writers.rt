@@ -1,6 +1,7 @@
 // Rows of calls that write. The first number says how many bytes of the buffer are lent; the whole buffer is printed afterwards.
 use crate::names;
 use crate::readers::byte_at;
+use calls_lists::refusals;
 use calls_text::are_below;
 use calls_text::are_numbers;
 use calls_text::number;
@@ -82,7 +83,7 @@ fn show(written: Written) {
             print::text(b"length");
             print::number(size);
         }
-        Written::Refused(r) => print::refused(records::number(r)),
+        Written::Refused(r) => refusals::show(r),
     }
 }
 
