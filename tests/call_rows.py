@@ -79,6 +79,13 @@ def shown(data):
     return data.hex() or "-"
 
 
+def refused(refusal):
+    """A refusal: its number, then the list of a pair and the gate's index where it has them."""
+    which = f" {refusal.which}" if refusal.which else ""
+    gate = "" if refusal.index is None else f" gate {refusal.index}"
+    return f"refused {refusal.number}{which}{gate}"
+
+
 def workspaces(accepted, seed):
     """What the workspaces hold afterwards: places of the first 3,136 that are 0, places of all that hold what they held."""
     zero = ref.PLACES if accepted or seed == 0 else 0
@@ -93,7 +100,7 @@ def written(call, buffer, size):
     try:
         length, after = call(buffer[:size])
     except ref.Refused as refusal:
-        return f"refused {refusal.number} {shown(buffer)}"
+        return f"{refused(refusal)} {shown(buffer)}"
     return f"length {length} {shown(after + buffer[size:])}"
 
 
@@ -118,7 +125,7 @@ def read_report(numbers, first, second, events):
 
 
 def check_gate(numbers, first, second, events):
-    ref.check_gate(*numbers_of(numbers, [ANY, BYTE, BYTE, BYTE]))
+    ref.check_gate(*numbers_of(numbers, [ANY, ANY, BYTE, BYTE, BYTE]))
     return "good"
 
 
@@ -154,7 +161,7 @@ def compare(numbers, first, second, events):
     try:
         result = ref.compare(*ref.read_pair(a, b, words, places), events)
     except ref.Refused as refusal:
-        return f"refused {refusal.number}" + workspaces(False, seed)
+        return refused(refusal) + workspaces(False, seed)
     return " ".join(map(str, result)) + workspaces(True, seed)
 
 
@@ -195,7 +202,7 @@ def answer(row, events=None):
     except Bad:
         return "bad row"
     except ref.Refused as refusal:
-        return f"refused {refusal.number}"
+        return refused(refusal)
 
 
 def line(row, events=None):

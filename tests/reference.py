@@ -13,11 +13,11 @@ PLACES = 3136
 
 
 class Refused(Exception):
-    """A call turned down, by number."""
+    """A call turned down: the number, the bad gate's index and the list of a pair, "first" or "second"; None where there is none."""
 
-    def __init__(self, number):
-        super().__init__(number)
-        self.number = number
+    def __init__(self, number, index=None, which=None):
+        super().__init__(number, index, which)
+        self.number, self.index, self.which = number, index, which
 
 
 def read_record(data):
@@ -33,23 +33,23 @@ def read_record(data):
     if g > 512:
         raise Refused(4)
     if len(data) < 5 + 3 * g:
-        raise Refused(1)
+        raise Refused(13)
     gates = []
     for i in range(g):
         gate = tuple(data[5 + 3 * i : 8 + 3 * i])
-        check_gate(n, *gate)
+        check_gate(n, i, *gate)
         gates.append(gate)
     return n, gates, 5 + 3 * g
 
 
-def check_gate(n, kind, a, b):
-    """Raises Refused where the gate is none on n qubits."""
+def check_gate(n, index, kind, a, b):
+    """Raises Refused where the gate with this index is none on n qubits."""
     if kind > SWAP:
-        raise Refused(5)
+        raise Refused(5, index)
     if kind <= H and b != 255:
-        raise Refused(7)
+        raise Refused(7, index)
     if a >= n or (kind > H and (b >= n or a == b)):
-        raise Refused(6)
+        raise Refused(6, index)
 
 
 def record(n, gates):
@@ -82,7 +82,7 @@ def add(buffer, kind, a, b):
     n, gates, _ = read_record(buffer)
     if len(gates) == 512:
         raise Refused(4)
-    check_gate(n, kind, a, b)
+    check_gate(n, len(gates), kind, a, b)
     return written(buffer, record(n, gates + [(kind, a, b)]))
 
 
@@ -296,10 +296,18 @@ def check_pair(n, first, m, second):
         raise Refused(9)
 
 
+def read_list(data, which):
+    """(n, gates) of one list of a pair; raises Refused with which of the two it is."""
+    try:
+        return read_record(data)[:2]
+    except Refused as refusal:
+        raise Refused(refusal.number, refusal.index, which) from None
+
+
 def read_pair(first, second, words, places):
     """n and both lists of a pair that is accepted with workspaces of so many words and byte places; raises Refused."""
-    n, gates, _ = read_record(first)
-    m, others, _ = read_record(second)
+    n, gates = read_list(first, "first")
+    m, others = read_list(second, "second")
     check_pair(n, gates, m, others)
     if words < PLACES or places < PLACES:
         raise Refused(10)
