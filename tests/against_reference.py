@@ -29,6 +29,12 @@ def fail(words):
     sys.exit(f"against_reference: {words}")
 
 
+def hold(got, want):
+    """The independent implementation to what is written here."""
+    if got != want:
+        fail(f"the independent implementation says {got!r} where {want!r} is written")
+
+
 class Check:
     """Rows and inputs of programs, with what they must print, and the classes that came up."""
 
@@ -53,13 +59,15 @@ class Check:
         return answer, events
 
     def simple(self, call, **parts):
-        """A row of the record layer, by the first word of its answer."""
+        """A row of the record layer, by the first word of its answer; a refusal by its number and, where it has one, its gate."""
         answer, _ = self.row(row("", call, **parts)[1:])
         words = answer.split()
         if call == "gates":
             self.see("gates: none" if words[1] == "-" else "gates: some")
         elif words[0] == "refused":
             self.see(f"{call}: refused {words[1]}")
+            if words[2:3] == ["gate"]:
+                self.see(*(f"{call}: refused at {place}" for place in bad_gate_places(call, int(words[3]), **parts)))
         else:
             self.see(f"{call}: {words[0]}")
         return words
@@ -95,8 +103,8 @@ class Check:
         done = subprocess.run([program("compare")], input=data, capture_output=True)
         if done.returncode < 0 or done.stdout.decode() != line + "\n":
             fail(f"compare on\n{data[:4000].hex()}\nprinted {done.stdout!r}, wanted {line!r}")
-        if want is not None and line != want:
-            fail(f"the independent implementation says {line!r} where {want!r} is written")
+        if want is not None:
+            hold(line, want)
         words = line.split()
         self.see("program: " + (line if words[0] == "refused" else words[0]))
         return line
@@ -109,15 +117,51 @@ def program(name):
     return path
 
 
-# Pairs.
+# Refusals.
 
 
-def pair_number(first, second, words, places):
+def refusal_of(call, *words):
+    """What a call of the independent implementation is refused by, or None."""
     try:
-        ref.read_pair(first, second, words, places)
+        call(*words)
     except ref.Refused as refusal:
-        return refusal.number
+        return refusal
     return None
+
+
+def bad_gate_places(call, index, numbers=(), first=b"", second=b""):
+    """The classes of the gate with this index, which a call on these parts is refused at."""
+    yield "a later gate" if index else "gate 0"
+    if call == "check_gate":
+        return
+    record = second if call == "add" else first
+    n, g = record[2], int.from_bytes(record[3:5], "little")
+
+    def is_bad(gate):
+        return refusal_of(ref.check_gate, n, 0, *gate) is not None
+
+    if call != "add":
+        if index == g - 1 > 0:
+            yield "the last of several gates"
+        if sum(is_bad(record[5 + 3 * i : 8 + 3 * i]) for i in range(g)) > 1:
+            yield "the first of several bad gates"
+    elif index < g:
+        yield "a gate that stands there"
+        if is_bad(numbers[1:]):
+            yield "a gate that stands there, the new one bad too"
+    elif g:
+        yield "the new gate behind others"
+
+
+def see_bad_lists(check, call, first, second, refusal):
+    """The list that a pair is refused by, and whether both are bad."""
+    if refusal.which:
+        check.see(f"{call}: {refusal.which} list refused at {'no' if refusal.index is None else 'a'} gate")
+    if refusal.which == "first" and refusal_of(ref.read_record, second):
+        check.see(f"{call}: both lists bad")
+
+
+# Pairs.
 
 
 def compare_row(check, numbers, first, second, call="compare"):
@@ -125,12 +169,13 @@ def compare_row(check, numbers, first, second, call="compare"):
     answer, events = check.row(row("", call, numbers, first, second)[1:])
     a = call_rows.bytes_of(first.hex() if isinstance(first, bytes) else first)
     b = a if second == "=" else call_rows.bytes_of(second.hex() if isinstance(second, bytes) else second)
-    number = pair_number(a, b, *numbers[:2])
+    refusal = refusal_of(ref.read_pair, a, b, *numbers[:2])
     if second == "=":
         check.see("compare: one slice given twice")
-    if number:
-        check.see(f"{call}: refused {number}")
-        return number
+    if refusal:
+        check.see(f"{call}: refused {refusal.number}")
+        see_bad_lists(check, call, a, b, refusal)
+        return refusal.number
     n, gates, others = ref.read_pair(a, b, *numbers[:2])
     if call == "pick":
         why = choice(gates, others, answer.split()[0], events)
@@ -228,14 +273,15 @@ def lent(rng, n, gates):
 
 
 def random_pair_row(check, rng, call, families=pairs.FAMILIES):
-    """A pair of a random family; now and then one of the two is damaged, or on other qubits, or the first is given twice."""
+    """A pair of a random family; now and then one or both are damaged, or on other qubits, or the first is given twice."""
     family = rng.choice(families)
     check.see(f"{call}: family {family.__name__}")
     n, first, second = family(rng)
     a, b = lent(rng, n, first), lent(rng, n, second)
     luck = rng.random()
     if luck < 0.12:
-        a, b = rng.choice(((pairs.damaged(rng, ref.record(n, first)), b), (a, pairs.damaged(rng, ref.record(n, second)))))
+        bad_a, bad_b = pairs.damaged(rng, ref.record(n, first)), pairs.damaged(rng, ref.record(n, second))
+        a, b = rng.choice(((bad_a, b), (bad_a, b), (a, bad_b), (a, bad_b), (bad_a, bad_b)))
     elif luck < 0.14:
         b = ref.record(rng.choice([m for m in range(1, 17) if m != n]), [])
     elif luck < 0.18:
@@ -248,6 +294,11 @@ def random_pair_row(check, rng, call, families=pairs.FAMILIES):
 
 
 # Records and reports.
+
+
+def buffer_of(words):
+    """What a writer's buffer holds afterwards, the last word of its answer."""
+    return bytes.fromhex(words[-1].replace("-", ""))
 
 
 def record_rows(check, rng):
@@ -266,10 +317,10 @@ def record_rows(check, rng):
         check.see("inverse: 512 gates")
     if words[0] == "length":
         length = int(words[1])
-        twice = check.simple("inverse", numbers=(room,), first=bytes.fromhex(words[2])[:length], second=buffer)
+        twice = check.simple("inverse", numbers=(room,), first=buffer_of(words)[:length], second=buffer)
         read = call_rows.bytes_of(data if isinstance(data, str) else data.hex())
-        if bytes.fromhex(twice[2])[:length] != read[:length]:
-            fail(f"inverse twice of {data} is {twice[2]}")
+        if buffer_of(twice)[:length] != read[:length]:
+            fail(f"inverse twice of {data} is {twice[-1]}")
         check.see("inverse: twice")
 
 
@@ -281,15 +332,14 @@ def builder_rows(check, rng):
     buffer = rng.randbytes(size + rng.choice((0, 0, 4)))
     m = n if rng.random() < 0.8 else rng.choice((0, 17, 255, 10**9))
     words = check.simple("start", numbers=(rng.choice((size, size, 0, 4)), m), second=buffer)
-    buffer = bytes.fromhex(words[2].replace("-", ""))
+    buffer = buffer_of(words)
     for gate in gates if words[0] == "length" else gates[:1]:
         gate = gate if rng.random() < 0.85 else pairs.bad_gate(rng, n)
-        words = check.simple("add", numbers=(min(size, len(buffer)), *gate), second=buffer)
-        buffer = bytes.fromhex(words[2].replace("-", ""))
+        buffer = buffer_of(check.simple("add", numbers=(min(size, len(buffer)), *gate), second=buffer))
         if rng.random() < 0.05:
             buffer = pairs.damaged(rng, buffer or b"\0")
     gate = pairs.random_gate(rng, n, pairs.ALL) if rng.random() < 0.5 else pairs.bad_gate(rng, n)
-    check.simple("check_gate", numbers=(n, *gate))
+    check.simple("check_gate", numbers=(n, rng.choice((0, 1, 255, 256, 511, rng.randrange(10**18))), *gate))
 
 
 def report_rows(check, rng):
@@ -298,7 +348,7 @@ def report_rows(check, rng):
     fields += [rng.randrange(256) for _ in range(5)]
     room = rng.choice((0, 11, 12, 12, 13))
     words = check.simple("write_report", numbers=(room, *fields), second=rng.randbytes(room + rng.choice((0, 2))))
-    data = bytes.fromhex(words[2].replace("-", ""))
+    data = buffer_of(words)
     read = check.simple("read_report", first=data)
     if words[0] == "length" and read[1:] != [str(x) for x in fields]:
         fail(f"report of {fields} reads back as {read}")
@@ -342,7 +392,8 @@ def fixed_inputs(check):
         if len(data) != 3082:
             fail(f"{len(data)} bytes where 3082 are meant")
         check.run_program(data, line)
-        check.run_program(data[:-1], "refused 1")
+        for size, number in ((4, 1), (5, 13), (1540, 13), (1541, 1), (1545, 1), (1546, 13), (3081, 13)):
+            check.run_program(data[:size], f"refused {number}")
         check.run_program(data + b"\0", "refused 12")
         check.run_program(data + b"\0" * 1000000, "refused 12")
         check.run_program(b"\0" + data * 400, "refused 2")
@@ -359,20 +410,47 @@ def fixed_rows(check):
     for n, first, second, line in full_records():
         for numbers in ((3136, 3136, 1), (3200, 3200, 0)):
             fields = compare_row(check, numbers, ref.record(n, first), ref.record(n, second))
-            if " ".join(fields) != line:
-                fail(f"the independent implementation says {fields} where {line!r} is written")
+            hold(" ".join(fields), line)
             compare_row(check, numbers, list_text(n, first), "=", "pick")
         compare_row(check, (3136, 3136, 1), ref.record(n, first), ref.record(n, second), "pick")
         check.simple("inverse", numbers=(1541,), first=ref.record(n, first), second=bytes(1541))
         check.simple("inverse", numbers=(1540,), first=ref.record(n, first), second=bytes(1541))
-        words = check.simple("add", numbers=(1544, ref.X, 0, 255), second=ref.record(n, first) + bytes(3))
-        check.see("add: at 512 gates, " + " ".join(words[:2]))
-        words = check.simple("add", numbers=(1541, ref.X, 0, 255), second=ref.record(n, first[:511]) + bytes(3))
-        check.see("add: at 511 gates, " + " ".join(words[:2]))
+        for kind in (ref.X, 11):
+            for size, g in ((1544, 512), (1541, 511)):
+                words = check.simple("add", numbers=(size, kind, 0, 255), second=ref.record(n, first[:g]) + bytes(3))
+                check.see(f"add: at {g} gates, " + " ".join(words[:-1]))
     for words in (0, 1, 3135, 3136, 3137):
         for places in (0, 1, 3135, 3136, 3137):
             for call in ("compare", "pick"):
                 compare_row(check, (words, places, 12345), "1:t0 t0", "1:s0", call)
+
+
+def refused_rows(check, data, number, gate=""):
+    """A record through every call that reads one, refused by this number and at this gate; as a first list and as a second."""
+    size, good = len(data), ref.record(1, [])
+    for words in (
+        check.simple("check", first=data),
+        check.simple("inverse", numbers=(size,), first=data, second=bytes(size))[:-1],
+        check.simple("add", numbers=(size, ref.X, 0, 255), second=data)[:-1],
+    ):
+        hold(" ".join(words), f"refused {number}{gate}")
+    hold(check.simple("gates", first=data), ["gates", "-"])
+    for first, second, which in ((data, good, "first"), (good, data, "second")):
+        compare_row(check, (3136, 3136, 1), first, second)
+        hold(check.lines[-1].split(": ")[1].split(",")[0], f"refused {number} {which}{gate}")
+        compare_row(check, (3136, 3136, 1), first, second, "pick")
+
+
+def fixed_refusals(check):
+    """A record cut at every byte, and a bad gate of each number at 0, 255, 256 and 511 of 512."""
+    whole = ref.record(1, pairs.one(ref.T, 0, 0, 0))
+    for size in range(len(whole)):
+        refused_rows(check, whole[:size], 1 if size < 5 else 13)
+    for number, gate in ((5, (11, 0, 255)), (6, (ref.T, 1, 255)), (7, (ref.T, 0, 0))):
+        for index in (0, 255, 256, 511):
+            gates = pairs.one(ref.T, *[0] * 512)
+            gates[index] = gate
+            refused_rows(check, ref.record(1, gates), number, f" gate {index}")
 
 
 def damaged_input(rng, data):
@@ -410,6 +488,7 @@ def main():
     check = Check()
     fixed_inputs(check)
     fixed_rows(check)
+    fixed_refusals(check)
     for _ in range(4000 * times):
         random_pair_row(check, rng, "compare")
     for i in range(2000 * times):

@@ -49,18 +49,35 @@ PICKS = (
     "first, different",
     "first, undecided",
 )
+OF_A_LIST = (1, 2, 3, 4, 13, 5, 6, 7)
 REFUSALS = {
-    "check": range(1, 8),
+    "check": OF_A_LIST,
     "check_gate": (5, 6, 7),
     "start": (3, 11),
-    "add": (*range(1, 8), 11),
-    "inverse": (*range(1, 8), 11),
+    "add": (*OF_A_LIST, 11),
+    "inverse": (*OF_A_LIST, 11),
     "write_report": (5, 11),
     "read_report": (1, 2, 5),
-    "compare": range(1, 11),
-    "pick": range(1, 11),
-    "program": (*range(1, 10), 12),
+    "compare": (*OF_A_LIST, 8, 9, 10),
+    "pick": (*OF_A_LIST, 8, 9, 10),
+    "program": (*OF_A_LIST, 8, 9, 12),
 }
+# the gate that a call is refused at
+ANY_GATE = ("gate 0", "a later gate")
+OF_A_RECORD = (*ANY_GATE, "the last of several gates", "the first of several bad gates")
+BAD_GATES = {
+    "check": OF_A_RECORD,
+    "check_gate": ANY_GATE,
+    "add": (*ANY_GATE, "the new gate behind others", "a gate that stands there", "a gate that stands there, the new one bad too"),
+    "inverse": OF_A_RECORD,
+}
+BAD_LISTS = (
+    "first list refused at a gate",
+    "first list refused at no gate",
+    "second list refused at a gate",
+    "second list refused at no gate",
+    "both lists bad",
+)
 ANSWERS = (
     "check: accepted",
     "gates: some",
@@ -69,6 +86,7 @@ ANSWERS = (
     "start: length",
     "add: length",
     "add: at 511 gates, length 1541",
+    "add: at 511 gates, refused 5 gate 511",
     "add: at 512 gates, refused 4",
     "inverse: length",
     "inverse: 512 gates",
@@ -94,6 +112,8 @@ CLASSES = (
     *(kind_class(kind) for kind in range(11)),
     *ANSWERS,
     *(f"{call}: refused {k}" for call, numbers in REFUSALS.items() for k in numbers),
+    *(f"{call}: refused at {place}" for call, places in BAD_GATES.items() for place in places),
+    *(f"{call}: {fault}" for call in ("compare", "pick") for fault in BAD_LISTS),
     *(f"program: {size} bytes" for size in (3082, 3083, 1000000)),
     *(f"rows of {name}" for name in PROGRAMS),
 )

@@ -173,27 +173,41 @@ FAMILIES = (mixed, diagonal, wide, many_h, long, blocked, few_gates, equal)
 
 
 def bad_gate(rng, n):
-    """A gate that n qubits have not."""
-    a, b = rng.randrange(n), rng.choice([q for q in range(n + 1)])
-    kinds = [(rng.randint(11, 255), a, b), (rng.randint(0, 7), a, rng.randint(0, 254)), (rng.randint(0, 7), rng.randint(n, 255), 255)]
-    return rng.choice(kinds + [(rng.randint(8, 10), a, a), (rng.randint(8, 10), n, a), (rng.randint(8, 10), a, rng.randint(n, 255))])
+    """A gate that n qubits have not, by each number as often, and often bad in another way too."""
+    a, b, out = rng.randrange(n), rng.randrange(n + 1), rng.randint(n, 255)
+    one_qubit, two_qubits = rng.randint(0, 7), rng.randint(8, 10)
+    fives = [(rng.randint(11, 255), a, b), (rng.randint(11, 255), out, out)]
+    sevens = [(one_qubit, a, rng.randint(0, 254)), (one_qubit, out, rng.randint(0, 254))]
+    sixes = [(one_qubit, out, 255), (two_qubits, a, a), (two_qubits, n, a), (two_qubits, a, out), (two_qubits, out, out)]
+    return rng.choice(rng.choice((fives, sevens, sixes)))
+
+
+def spoil_gates(rng, data, g):
+    """The first of g gates made bad, or the last, or any, and often others too."""
+    n = max(1, min(data[2], 16))
+    for i in [rng.choice((0, g - 1, rng.randrange(g))), *rng.sample(range(g), rng.choice((0, 0, min(g, 2))))]:
+        data[5 + 3 * i : 8 + 3 * i] = bytes(bad_gate(rng, n))
 
 
 def damaged(rng, data):
     """A record with a fault; now and then it still is one."""
+    if len(data) < 5:
+        return data[: rng.randrange(len(data))]
     data = bytearray(data)
-    fault = rng.randrange(7) if len(data) >= 5 else 0
+    g = min(int.from_bytes(data[3:5], "little"), (len(data) - 5) // 3)
+    fault = rng.randrange(9)
     if fault == 0:
-        return bytes(data[: rng.randrange(len(data))])
-    if fault == 1:
+        del data[rng.randrange(5) :]
+    elif fault == 1:
         data[rng.randrange(2)] = rng.choice((0, 0x43, 0x51, 0x56, rng.randrange(256)))
     elif fault == 2:
         data[2] = rng.choice((0, 17, 255))
     elif fault == 3:
         data[3:5] = rng.choice((513, 514, 1024, 65535)).to_bytes(2, "little")
-    elif fault < 6 and len(data) >= 8:
-        at = 5 + 3 * rng.randrange((len(data) - 5) // 3)
-        data[at : at + 3] = bytes(bad_gate(rng, max(1, min(data[2], 16))))
+    elif fault == 4 and g:
+        del data[rng.choice((5, 4 + 3 * g, rng.randrange(5, 5 + 3 * g))) :]
+    elif fault < 8 and g:
+        spoil_gates(rng, data, g)
     else:
         data[rng.randrange(len(data))] = rng.randrange(256)
     return bytes(data)
