@@ -99,12 +99,13 @@ ROWS = (
     (one("H T H"), NOTHING, "undecided 0 0 1 0 0 0 1"),
     (record(2, ["CX 0 1"]), record(2, []), "different 1 1 0 0 0 0 0"),
 )
-# a file for each number that a list alone is refused by
+# a file for each number that a list alone is refused by, in the order of the checks
 BAD = {
-    1: EXAMPLE[:-1],
+    1: EXAMPLE[:4],
     2: b"\x51\x56" + EXAMPLE[2:],
     3: b"\x51\x43\x11\x00\x00",
     4: b"\x51\x43\x01\x01\x02" + b"\x05\x00\xff" * 513,
+    13: EXAMPLE[:-1],
     5: b"\x51\x43\x01\x01\x00\x0b\x00\xff",
     6: b"\x51\x43\x01\x01\x00\x07\x01\xff",
     7: b"\x51\x43\x01\x01\x00\x07\x00\x00",
@@ -113,9 +114,14 @@ BAD = {
 ORDER = (
     ("4 bytes, another mark", b"QVQV", 1),
     ("another mark, no qubits, 513 gates", b"QV\x00\x01\x02", 2),
+    ("another mark, 1 gate, no body", b"QV\x01\x01\x00", 2),
     ("no qubits, 513 gates", b"QC\x00\x01\x02", 3),
+    ("no qubits, 1 gate, no body", b"QC\x00\x01\x00", 3),
     ("513 gates, no body", b"QC\x01\x01\x02", 4),
-    ("cut behind a gate that is none", b"QC\x01\x02\x00\x0b\x00\xff", 1),
+    ("512 gates, no body", b"QC\x01\x00\x02", 13),
+    ("1 gate, no body", b"QC\x01\x01\x00", 13),
+    ("cut behind a gate that is none", b"QC\x01\x02\x00\x0b\x00\xff", 13),
+    ("cut in a gate that is none", b"QC\x01\x01\x00\x0b\x09", 13),
     ("kind 11 on no qubit", b"QC\x01\x01\x00\x0b\x09\x09", 5),
     ("H on qubits 9 and 0", b"QC\x01\x01\x00\x07\x09\x00", 7),
     ("CX with 255", b"QC\x02\x01\x00\x08\x00\xff", 6),
@@ -130,6 +136,12 @@ def status_of(line):
     return WORDS[line.split()[0]]
 
 
+def cut_cases():
+    """(size, the example cut to it, line): 1 in its head, 13 in its body."""
+    for size in range(len(EXAMPLE)):
+        yield size, EXAMPLE[:size], f"refused {1 if size < 5 else 13}"
+
+
 def border_cases():
     """(label, first file, second file, line): what the border between two files and the end of each decide."""
     for first, second, line in ROWS:
@@ -137,14 +149,16 @@ def border_cases():
     yield "empty first, two records in the second", b"", EXAMPLE + NOTHING, "refused 1"
     yield "two records in the first, empty second", EXAMPLE + NOTHING, b"", "refused 1"
     yield "both empty", b"", b"", "refused 1"
-    for size in range(len(EXAMPLE)):
-        yield f"first cut to {size} bytes", EXAMPLE[:size], NOTHING, "refused 1"
-        yield f"second cut to {size} bytes", NOTHING, EXAMPLE[:size], "refused 1"
-    yield "cut first that the second would complete", EXAMPLE[:-1], b"\xff" + NOTHING, "refused 1"
-    for number, bad in BAD.items():
+    for size, cut, line in cut_cases():
+        yield f"first cut to {size} bytes", cut, NOTHING, line
+        yield f"second cut to {size} bytes", NOTHING, cut, line
+    yield "the whole example second", NOTHING, EXAMPLE, "equal 0 0 1 1 1 0 0"
+    yield "cut first that the second would complete", EXAMPLE[:-1], b"\xff" + NOTHING, "refused 13"
+    yield "cut head that the second would complete", EXAMPLE[:4], EXAMPLE[4:] + NOTHING, "refused 1"
+    for (number, bad), other in zip(BAD.items(), [*BAD.values()][1:] + [BAD[1]]):
         yield f"first refused by {number}", bad, NOTHING, f"refused {number}"
         yield f"second refused by {number}", EXAMPLE, bad, f"refused {number}"
-        yield f"first refused by {number}, second by another", bad, BAD[number % 7 + 1], f"refused {number}"
+        yield f"first refused by {number}, second by another", bad, other, f"refused {number}"
         yield f"bytes behind the first, second refused by {number}", EXAMPLE + b"\0", bad, f"refused {number}"
     for label, bad, number in ORDER:
         yield label, bad, NOTHING, f"refused {number}"
@@ -165,8 +179,8 @@ def long_cases():
     yield "512 gates second", NOTHING, FULL, "equal 0 0 0 0 0 0 0"
     yield "1,542 bytes first", FULL + b"\0", FULL, "refused 12"
     yield "1,542 bytes second", FULL, FULL + b"\0", "refused 12"
-    yield "1,540 bytes first", FULL[:-1], FULL, "refused 1"
-    yield "1,540 bytes second", FULL, FULL[:-1], "refused 1"
+    yield "1,540 bytes first", FULL[:-1], FULL, "refused 13"
+    yield "1,540 bytes second", FULL, FULL[:-1], "refused 13"
     yield "a megabyte behind the first", FULL + b"Q" * 1000000, FULL, "refused 12"
     yield "a megabyte behind the second", NOTHING, NOTHING + b"Q" * 1000000, "refused 12"
     yield "a megabyte of zeros", bytes(1000000), NOTHING, "refused 2"
@@ -178,15 +192,21 @@ def stream_cases():
         yield f"row {line}", first + second, line
     yield "nothing", b"", "refused 1"
     yield "one record", EXAMPLE, "refused 1"
-    yield "cut second", EXAMPLE + NOTHING[:4], "refused 1"
+    yield "cut head of the second", EXAMPLE + NOTHING[:4], "refused 1"
+    for size, cut, line in cut_cases():
+        yield f"first cut to {size} bytes", cut, line
+        yield f"second cut to {size} bytes", EXAMPLE + cut, line
+    yield "a first without its last byte takes the second's first", EXAMPLE[:-1] + NOTHING, "refused 7"
     yield "a byte behind", EXAMPLE + NOTHING + b"\0", "refused 12"
     yield "12 before 8", record(2, []) + NOTHING + b"\0", "refused 12"
     yield "8", record(2, []) + NOTHING, "refused 8"
+    yield "1,540 bytes", FULL[:-1], "refused 13"
+    yield "3,081 bytes", FULL + FULL[:-1], "refused 13"
     yield "3,082 bytes", FULL + FULL, "equal 0 0 0 0 0 0 0"
     yield "3,083 bytes", FULL + FULL + b"\0", "refused 12"
     yield "a megabyte behind", FULL + FULL + bytes(1000000), "refused 12"
     for number, bad in BAD.items():
-        yield f"first refused by {number}", bad + (b"" if number == 1 else NOTHING), f"refused {number}"
+        yield f"first refused by {number}", bad + (b"" if number in (1, 13) else NOTHING), f"refused {number}"
         yield f"second refused by {number}", EXAMPLE + bad, f"refused {number}"
 
 
@@ -301,11 +321,11 @@ def one_write(room):
 # ---- the script
 def script_answers(room):
     """Line and exit status of the script; the borders hold there too."""
-    cases = [case for case in border_cases() if not case[0].startswith(("first cut", "second cut"))]
-    for label, first, second, line in cases + list(long_cases())[:5]:
+    cases = [case for case in border_cases() if "cut to" not in case[0]]
+    for label, first, second, line in cases + list(long_cases())[:7]:
         got = run([SCRIPT, room.file(first), room.file(second)])
         check(f"script, files: {label}", got, (status_of(line), f"{line}\n".encode(), ""))
-    for label, data, line in [case for case in stream_cases() if "refused by" not in case[0]]:
+    for label, data, line in [case for case in stream_cases() if "refused by" not in case[0] and "cut to" not in case[0]]:
         check(f"script, stream: {label}", run([SCRIPT], input=data), (status_of(line), f"{line}\n".encode(), ""))
     same = room.file(EXAMPLE)
     check("script, the same file twice", run([SCRIPT, same, same])[:2], (0, b"equal 0 0 1 1 2 1 0\n"))
@@ -699,7 +719,7 @@ def gates_records(room):
         want = int(out[1]) if out[0] == "refused" and out[1] not in ("8", "9") else 0
         seen.add(want)
         check(f"refusal of {data.hex()}", gates.refusal(data), want)
-    check("refusals that came up", seen, {0, 1, 2, 3, 4, 5, 6, 7, 12})
+    check("refusals that came up", seen, {0, 1, 2, 3, 4, 5, 6, 7, 12, 13})
 
 
 def main():
