@@ -16,6 +16,7 @@ import tempfile
 
 sys.dont_write_bytecode = True
 import against_reference as cross
+from call_rows import PROGRAMS
 from classes import CLASSES
 
 HERE = os.path.dirname(os.path.abspath(__file__))
@@ -112,7 +113,7 @@ class Fault:
 
 
 def try_rows(folder):
-    """A row that is mistyped, wrong or lost, and files that are not those of the rows."""
+    """Files that are not those of the rows."""
     for test in ("make_rows.py", "phase_sum_rows.py"):
         got = run_test(folder, test, "--check")
         trial(f"{test}, no fault", got[0] == 0, got)
@@ -125,19 +126,51 @@ def try_rows(folder):
         for file, old in (("stdin", row), ("stdout", "1")):
             with Fault(folder, f"crates/{name}/{file}", old, "7"):
                 trial(f"{test}, another {file} of {name}", run_test(folder, test, "--check")[0] != 0)
+
+
+def try_row_faults(folder):
+    """A row that is mistyped, wrong or lost."""
     row = "01: H;compare;3136 3136 0;1:h0;1: => different 0 0 1 0 0 0 0\n"
-    for label, new in (
-        ("a mistyped gate", row.replace(":h0", ":hh")),
-        ("a gate without its qubit", row.replace(":h0", ":h")),
-        ("a mistyped call", row.replace("compare", "compere")),
-        ("a part too few", row.replace(";1: ", " ")),
-        ("another answer", row.replace("1 0 0 0 0", "1 0 0 0 1")),
-        ("no answer", row.split(" =>")[0] + "\n"),
-        ("a row less", ""),
-        ("a row more", row + row),
+    gate = "check: second gate bad, 6;check;;51430102000000ff0001ff; => refused 6 gate 1\n"
+    body = "check: body one byte short, 13;check;;51430101000000; => refused 13\n"
+    pair = "unknown kind;compare;3136 3136 0;5143010000;51430101000b00ff => refused 5 second gate 0\n"
+    for label, old, new in (
+        ("a mistyped gate", row, row.replace(":h0", ":hh")),
+        ("a gate without its qubit", row, row.replace(":h0", ":h")),
+        ("a mistyped call", row, row.replace("compare", "compere")),
+        ("a part too few", row, row.replace(";1: ", " ")),
+        ("another answer", row, row.replace("1 0 0 0 0", "1 0 0 0 1")),
+        ("no answer", row, row.split(" =>")[0] + "\n"),
+        ("a row less", row, ""),
+        ("a row more", row, row + row),
+        ("another index", gate, gate.replace("gate 1\n", "gate 2\n")),
+        ("no index", gate, gate.replace(" gate 1\n", "\n")),
+        ("an index too many", body, body.replace("refused 13", "refused 13 gate 0")),
+        ("another number", body, body.replace("refused 13", "refused 1")),
+        ("another list", pair, pair.replace("second", "first")),
+        ("no list", pair, pair.replace(" second", "")),
     ):
-        with Fault(folder, "tests/rows.txt", row, new):
+        with Fault(folder, "tests/rows.txt", old, new):
             trial(f"make_rows.py, {label}", run_test(folder, "make_rows.py", "--check")[0] != 0)
+
+
+def try_reference_faults(folder):
+    """An independent implementation that refuses otherwise than the rows say."""
+    four, thirteen = "    if g > 512:\n        raise Refused(4)\n", "    if len(data) < 5 + 3 * g:\n        raise Refused(13)\n"
+    for label, old, new in (
+        ("a short body by 1", "raise Refused(13)", "raise Refused(1)"),
+        ("a short body before 4", four + thirteen, thirteen + four),
+        ("the next gate's index", "check_gate(n, i, *gate)", "check_gate(n, i + 1, *gate)"),
+        ("an index of one byte", "check_gate(n, i, *gate)", "check_gate(n, i % 256, *gate)"),
+        ("the last gate's index for a new one", "check_gate(n, len(gates), kind", "check_gate(n, len(gates) - 1, kind"),
+        ("no index", "Refused(refusal.number, refusal.index, which)", "Refused(refusal.number, None, which)"),
+        ("the other list", 'read_list(second, "second")', 'read_list(second, "first")'),
+        ("an index for a report", "raise Refused(5)\n    inputs", "raise Refused(5, 0)\n    inputs"),
+    ):
+        with Fault(folder, "tests/reference.py", old, new):
+            status, lines = run_test(folder, "make_rows.py", "--check")
+            held = status != 0 and "but the independent implementation says" in lines[-1]
+            trial(f"make_rows.py, a reference with {label}", held, lines[-1:])
 
 
 def try_documents(folder):
@@ -193,10 +226,11 @@ def try_cross_check(folder):
     """Programs that print something else, and classes that do not come up."""
     cross.program = lambda name: os.path.join(folder, name)
 
-    def one_row(text):
-        put(folder, "record_calls", f"#!/bin/sh\n{text}\n", 0o755)
+    def one_row(text, row="check_gate;1 0 0 0 255;;"):
+        for name in PROGRAMS:
+            put(folder, name, f"#!/bin/sh\n{text}\n", 0o755)
         check = cross.Check()
-        check.row("check_gate;1 0 0 255;;")
+        check.row(row)
         check.run_rows()
 
     passes("cross-check, the row's line", one_row, "echo '0: good'; echo 'rows 1'")
@@ -209,6 +243,15 @@ def try_cross_check(folder):
         ("a failure at the end", "echo '0: good'; echo 'rows 1'; exit 1"),
     ):
         ends(f"cross-check, record_calls: {label}", one_row, text)
+    left = "sets zero 3136 kept 3200, coeffs zero 3136 kept 3200"
+    for row, line, others in (
+        ("check_gate;1 3 11 0 255;;", "refused 5 gate 3", ("refused 5 gate 4", "refused 5")),
+        ("check;;5143010100;", "refused 13", ("refused 1", "refused 13 gate 0")),
+        ("compare;0 0 0;5143010000;5143", f"refused 1 second, {left}", (f"refused 1 first, {left}", f"refused 1, {left}")),
+    ):
+        passes(f"cross-check, {line}", one_row, f"echo '0: {line}'; echo 'rows 1'", row)
+        for other in others:
+            ends(f"cross-check, {other} for {line}", one_row, f"echo '0: {other}'; echo 'rows 1'", row)
 
     def one_input(text, want=None):
         put(folder, "compare", f"#!/bin/sh\n{text}\n", 0o755)
@@ -229,7 +272,7 @@ def try_cross_check(folder):
     ends("cross-check, a class that never came up", cross.show_classes, check)
     check = cross.Check()
     check.see(*CLASSES)
-    check.row("check_gate;1 0 0 255;;")
+    check.row("check_gate;1 0 0 0 255;;")
     ends("cross-check, rows that were not run", cross.show_classes, check)
 
 
@@ -244,6 +287,8 @@ def main():
         for name in ("README.md", "crates.txt", "compare"):
             shutil.copy(os.path.join(ROOT, name), folder)
         try_rows(folder)
+        try_row_faults(folder)
+        try_reference_faults(folder)
         try_documents(folder)
     print(f"gate: {HELD['trials']} trials, {HELD['failed']} failed")
     return 1 if HELD["failed"] else 0
