@@ -196,6 +196,7 @@ def stream_cases():
     for size, cut, line in cut_cases():
         yield f"first cut to {size} bytes", cut, line
         yield f"second cut to {size} bytes", EXAMPLE + cut, line
+    yield "the example twice", EXAMPLE + EXAMPLE, "equal 0 0 1 1 2 1 0"
     yield "a first without its last byte takes the second's first", EXAMPLE[:-1] + NOTHING, "refused 7"
     yield "a byte behind", EXAMPLE + NOTHING + b"\0", "refused 12"
     yield "12 before 8", record(2, []) + NOTHING + b"\0", "refused 12"
