@@ -28,7 +28,7 @@ use Rattle.phase_sum_types.proofs.Storing.{over-padded}
 use Rattle.phase_sum_types.proofs.Acceptance.{buildable}
 use Rattle.comparison_meaning.specs.Reduction as reduction
 use Rattle.comparison_meaning.specs.Reduction.{pinned, reduceEnd}
-use Rattle.comparison_meaning.specs.Verdict.{Result, equal, different, miter, judge, compare}
+use Rattle.comparison_meaning.specs.Verdict.{Result, miter, judge, compare}
 use Rattle.comparison_meaning.specs.Demands.{Accepted, Demands, EqualIsRight, DifferentIsRight, ByTheSteps, InputsOnlyIfDifferent, CliffordIsDecided, CountsAddUp, StepsWithinHGates}
 use Rattle.comparison_meaning.proofs.Bytes.{demands-pair}
 use Rattle.comparison_types.specs.Call.{PairFault, says, refuses, faultOf, resultOf, saidOf, pairRows, workspaceRows, pairFault, compareRead, unlessFault, comparison}

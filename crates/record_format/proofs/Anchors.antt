@@ -5,7 +5,7 @@ use mathlib.Core.Path.{_≡_, refl}
 use Prim.Native.Nat.{ℕ}
 use mathlib.Core.List.{[], _∷_, _++_}
 use Rattle.record_format.specs.Format.{listMark}
-use Rattle.record_format.specs.Gate.{everyKind, one, two, S, S†, T†, T, H, CX, gateOf, inverseKind, inverseGate, inverseList, X, Y, Z, CZ, SWAP}
+use Rattle.record_format.specs.Gate.{everyKind, one, two, S, S†, T†, T, H, CX, gateOf, inverseKind, inverseGate, inverseList}
 use Rattle.record_format.specs.Row.{fault, faultAt, first}
 use Rattle.record_format.specs.Reading.{raws, allGateRows, recordRows, accepted, refused, read}
 use Rattle.record_format.specs.Writing.{gatePart, gatesAt}
@@ -24,6 +24,21 @@ other-mark = refl
 pub count-before-body : read (listMark ++ 1 ∷ 1 ∷ 2 ∷ []) ≡ refused (fault 4)
 unfolding read recordRows first allGateRows raws
 count-before-body = refl
+
+-- five bytes with g = 1: the head is there, the body is not
+pub head-alone : read (listMark ++ 1 ∷ 1 ∷ 0 ∷ []) ≡ refused (fault 13)
+unfolding read recordRows first allGateRows raws
+head-alone = refl
+
+-- five bytes with g = 0: nothing is missing
+pub no-gates : read (listMark ++ 1 ∷ 0 ∷ 0 ∷ []) ≡ accepted 1 []
+unfolding read recordRows first allGateRows raws
+no-gates = refl
+
+-- a body one byte short
+pub one-byte-short : read (listMark ++ 1 ∷ 1 ∷ 0 ∷ 0 ∷ 0 ∷ []) ≡ refused (fault 13)
+unfolding read recordRows first allGateRows raws
+one-byte-short = refl
 
 -- a short body whose first gate is bad: the body comes before the gates
 pub body-before-gates : read (listMark ++ 1 ∷ 2 ∷ 0 ∷ 11 ∷ 0 ∷ 255 ∷ []) ≡ refused (fault 13)

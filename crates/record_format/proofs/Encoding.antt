@@ -36,7 +36,7 @@ pub length-gates : (s : List ℕ) → size (count s) ≤ length s → length (ga
 length-gates s long = simp (length-map, length-raws, length-take, length-drop) (omega arith)
 
 -- a gate is three bytes
-length-body : (gs : List Gate) → length (bodyBytes gs) ≡ gateSize * length gs
+pub length-body : (gs : List Gate) → length (bodyBytes gs) ≡ gateSize * length gs
 unfolding bodyBytes gateBytes
 length-body [] = refl
 length-body (one u a ∷ gs) = omega (arith, length-body gs)

@@ -5,7 +5,7 @@ use Prim.Native.Nat.{ℕ, zero, suc, _+_, _-_, _≤_, _<_}
 use native.Mathlib.Nat.{sub-zero}
 use native.Mathlib.Numerals.{add-one}
 use native.Mathlib.Omega.{arith}
-use mathlib.Core.Bool.{Bool, true, false, cond}
+use mathlib.Core.Bool.{Bool, true, false}
 use mathlib.Core.Option.{Option, none, some, Option·none-ne-some, Option·some-injective}
 use mathlib.Core.List.{List, [], _∷_, _++_}
 use lib.ListN.{length}
@@ -14,15 +14,15 @@ use borrow.Author.Tests.{ltb-false, leb-true, leb-false, eqb-true, eqb-false, ne
 use Rattle.record_format.specs.Format.{mostGates}
 use Rattle.record_format.specs.Gate.{Gate, Raw, gateOf}
 use Rattle.record_format.specs.Row.{Fault, fault, Row, row, first}
-use Rattle.record_format.specs.Reading.{size, qubits, count, body, raws, rawAt, gates, badQubits, headRows, gateRows, allGateRows, recordRows, accepted, refused, read}
-use Rattle.record_format.specs.Answer.{gives, refuses}
+use Rattle.record_format.specs.Reading.{size, qubits, count, body, raws, rawAt, gates, headRows, gateRows, allGateRows, recordRows, accepted, refused, read}
+use Rattle.record_format.specs.Answer.{refuses}
 use Rattle.record_format.specs.declared.Checked.the-variants.{Accepted}
-use Rattle.record_format.specs.Writing.{Outcome, faultOr, encode, write, start, add, inverse}
+use Rattle.record_format.specs.Writing.{Outcome, encode, write, start, add, inverse}
 use Rattle.record_format.specs.Report.{reportRows, writeReport, readReport}
 use Rattle.record_format.specs.Promises.{FirstHolds, writerRows, FirstBadGate, IndexIsFirstBad, AddedGateIndex, RecordsFaultIsKept, IndexedAsAGate, OnlyGatesHaveAnIndex}
 use Rattle.record_format.proofs.Rows.{none-holds, first-holds, first-none, first-some, AllFaults, all-both, first-is}
-use Rattle.record_format.proofs.Reading.{rowsFrom, rowsFrom-end, pass-good, stop-bad, Accepts, accepts}
-use Rattle.record_format.proofs.Theorems.{one-answer, stopped, refused-writer-changes-nothing}
+use Rattle.record_format.proofs.Reading.{gates-all, rowsFrom, rowsFrom-end, pass-good, stop-bad, Accepts, accepts}
+use Rattle.record_format.proofs.Theorems.{stopped, read-refused, refused-writer-changes-nothing}
 use Rattle.record_format.proofs.Writers.{write-refused, first-to-add}
 
 -- no fault has no index and one
@@ -212,24 +212,13 @@ records-fault-is-kept s f is =
       λ buffer. ap (λ (o : Outcome). o .answer) (write-refused _ _ buffer f stops),
     )
 
--- the faults of head and body, of a gate, of several and of a record are indexed as they should be
-head-indexed : (s : List ℕ) → AllFaults IndexedAsAGate (headRows s)
-head-indexed s = (refl, (refl, (refl, (refl, (refl, tt)))))
-
-gate-indexed : (n i : ℕ) (r : Raw) → AllFaults IndexedAsAGate (gateRows n i r)
-gate-indexed n i r = (refl, (refl, (refl, tt)))
-
-gates-indexed : (n i : ℕ) (rs : List Raw) → AllFaults IndexedAsAGate (allGateRows n i rs)
-unfolding allGateRows
-gates-indexed n i [] = tt
-gates-indexed n i (r ∷ rs) =
-    all-both IndexedAsAGate (gateRows n i r) (allGateRows n (suc i) rs) (gate-indexed n i r) (gates-indexed n (suc i) rs)
-
+-- the faults of a record have an index exactly where they are a gate's
 record-indexed : (s : List ℕ) → AllFaults IndexedAsAGate (recordRows s)
 unfolding recordRows
 record-indexed s =
-    all-both IndexedAsAGate (headRows s) (allGateRows (qubits s) 0 (raws (body s))) (head-indexed s)
-    (gates-indexed (qubits s) 0 (raws (body s)))
+    all-both IndexedAsAGate (headRows s) (allGateRows (qubits s) 0 (raws (body s)))
+    (refl, (refl, (refl, (refl, (refl, tt)))))
+    (gates-all IndexedAsAGate (λ i. (refl, refl, refl)) (qubits s) 0 (raws (body s)))
 
 -- what all faults of a writer's rows are, and 11 is, that its answer is
 writer-is :
@@ -239,11 +228,6 @@ writer-is P rows new buffer f all last answers =
     first-is P (writerRows rows new buffer) f (all-both P rows _ all (last, tt))
     (first-holds (writerRows rows new buffer) f .1 (refused-writer-changes-nothing rows new buffer f answers .0))
 
--- an answer that refuses is that of the first fault
-read-refused : (o : Option Fault) (values : List ℕ) (f : Fault) → faultOr o (gives values) ≡ refuses f → o ≡ some f
-read-refused none values f h = absurd (one-answer h)
-read-refused (some h) values f e = cc
-
 -- only gates have an index
 pub only-gates-have-an-index : OnlyGatesHaveAnIndex
 unfolding start add inverse writeReport readReport
@@ -252,7 +236,7 @@ only-gates-have-an-index =
       reading = λ s f is. first-is IndexedAsAGate (recordRows s) f (record-indexed s) (stopped s f is);
       starting = λ n l f answers. writer-is IndexedAsAGate _ _ l f (refl, tt) refl answers;
       adding = λ r l f answers. writer-is IndexedAsAGate _ _ l f
-          (all-both IndexedAsAGate (recordRows l) _ (record-indexed l) (refl, gate-indexed (qubits l) (count l) r)) refl answers;
+          (all-both IndexedAsAGate (recordRows l) _ (record-indexed l) (refl, (refl, (refl, (refl, tt))))) refl answers;
       inverting = λ s l f answers. writer-is IndexedAsAGate _ _ l f (record-indexed s) refl answers;
       writing-reports = λ r l f answers. writer-is (λ f. f .index ≡ none) _ _ l f (refl, tt) refl answers;
       reading-reports = λ s f answers. first-is (λ f. f .index ≡ none) (reportRows s) f (refl, (refl, (refl, tt))) (read-refused _ _ f answers);

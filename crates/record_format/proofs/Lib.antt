@@ -1,4 +1,4 @@
--- Worked cases that anchor the definitions, lemmas by topic, and the proofs of specs/Promises.antt in Theorems and Indices.
+-- Worked cases that anchor the definitions, lemmas by topic, and the proofs of specs/Promises.antt in Theorems, Indices and Cuts.
 pub mod Anchors
 pub mod GateLaws
 pub mod Rows
@@ -8,3 +8,4 @@ pub mod Storing
 pub mod Writers
 pub mod Theorems
 pub mod Indices
+pub mod Cuts

@@ -9,8 +9,8 @@ use native.Mathlib.Numerals.{add-one}
 use native.Mathlib.Omega.{arith}
 use lib.ListN.{length, getD, take, drop}
 use borrow.Author.Tests.{ltb-false}
-use Rattle.record_format.specs.Gate.{raw}
-use Rattle.record_format.specs.Row.{Fault, Row, first}
+use Rattle.record_format.specs.Gate.{Raw, raw}
+use Rattle.record_format.specs.Row.{Fault, faultAt, Row, first}
 use Rattle.record_format.specs.Reading.{qubits, count, size, body, raws, rawAt, gates, headRows, gateRows, allGateRows, recordRows, accepted, unless, read}
 use Rattle.record_format.specs.Answer.{gives, refuses, faultOf, checkedAnswer, gateFault}
 use Rattle.record_format.specs.declared.Refusal.{Refusal}
@@ -20,9 +20,19 @@ use Rattle.record_format.specs.declared.gate.GateCheck.{GateCheck}
 use Rattle.record_format.specs.declared.gate.GateCheck.the-variants.{Good}
 use Rattle.record_format.specs.Writing.{faultOr, checkAnswer}
 use Rattle.record_format.specs.Inner.{headAnswer}
-use Rattle.record_format.proofs.Rows.{none-holds, first-none, first-some}
+use Rattle.record_format.proofs.Rows.{none-holds, first-none, first-some, AllFaults, all-both}
 use Rattle.record_format.proofs.Encoding.{GoodHead, good-head, length-gates}
 use Rattle.record_format.proofs.Storing.{three-at}
+
+-- what all faults of one gate are, those of several gates are
+pub gates-all :
+    (P : Fault → Type 0) → ((i : ℕ) → P (faultAt i 5) × P (faultAt i 7) × P (faultAt i 6)) → (n i : ℕ) (rs : List Raw)
+    → AllFaults P (allGateRows n i rs)
+unfolding allGateRows
+gates-all P each n i [] = tt
+gates-all P each n i (r ∷ rs) =
+    let (five, seven, six) = each i in
+    all-both P (gateRows n i r) (allGateRows n (suc i) rs) (five, (seven, (six, tt))) (gates-all P each n (suc i) rs)
 
 -- the first of m + 1 gates from place p on
 raws-step : (s : List ℕ) (p m : ℕ) → p + 3 * suc m ≤ length s

@@ -2,7 +2,7 @@
 -- Assumes nothing.
 use mathlib.Core.Path.{_≡_, refl, sym, ap, _∙_}
 use mathlib.Core.Logic.{_↔_}
-use mathlib.Core.Bool.{Bool, true, false, cond}
+use mathlib.Core.Bool.{Bool, true, false, cond, true≢false}
 use mathlib.Core.Option.{Option, none, some, Option·map, Option·none-ne-some, Option·some-ne-none, Option·some-injective}
 use mathlib.Core.List.{List, [], _∷_, _++_, map}
 use Rattle.record_format.specs.Row.{Row, told, first}
@@ -93,6 +93,25 @@ module _ {F : Type 0} where
       go : (c : Bool) → (first rows ≡ some f → P f) → cond c (some (r .fault)) (first rows) ≡ some f → P f
       go true later h = rw (← Option·some-injective (r .fault) f h) here
       go false later h = later h
+
+  -- a row whose fault no other row has gives the first fault exactly where it holds and none before it does
+  module _ (is : F → Bool) (xs : List (Row F)) (r : Row F) (ys : List (Row F)) (own : is (r .fault) ≡ true)
+      (before : AllFaults (λ f. is f ≡ false) xs) (after : AllFaults (λ f. is f ≡ false) ys) where
+    -- no table of others gives it
+    not-theirs : (rows : List (Row F)) → AllFaults (λ f. is f ≡ false) rows → first rows ≡ some (r .fault) → ⊥
+    not-theirs rows others h = true≢false (sym own ∙ first-is (λ f. is f ≡ false) rows (r .fault) others h)
+
+    pub only-row : (first (xs ++ r ∷ ys) ≡ some (r .fault)) ↔ (NoneHolds xs × (r .when ≡ true))
+    unfolding first
+    only-row = (λ h. go (first xs) refl (r .when) refl h, λ (free, on). first-none xs (r ∷ ys) (none-holds xs .1 free) ∙ rw on)
+      where
+        go : (o : Option F) → first xs ≡ o → (c : Bool) → r .when ≡ c → first (xs ++ r ∷ ys) ≡ some (r .fault)
+            → NoneHolds xs × (r .when ≡ true)
+        go (some f) bad c e h = absurd (not-theirs xs before (bad ∙ sym (first-some xs (r ∷ ys) f bad) ∙ h))
+        go none free true on h = (none-holds xs .0 free, on)
+        go none free false off h =
+            let rest : first (r ∷ ys) ≡ some (r .fault) = sym (first-none xs (r ∷ ys) free) ∙ h in
+            absurd (not-theirs ys after (rw off at rest))
 
 -- the first fault of a table that is told otherwise is the first fault, told so
 pub first-told : {F G : Type 0} (g : F → G) (rows : List (Row F)) → first (map (told g) rows) ≡ Option·map g (first rows)

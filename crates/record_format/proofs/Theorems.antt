@@ -1,4 +1,4 @@
--- The promises of specs/Promises.antt, each proved but for those on a fault's index, which stand in Indices.
+-- The promises of specs/Promises.antt, each proved; those on a fault's index stand in Indices, those on 1 and 13 in Cuts.
 -- Assumes nothing.
 use mathlib.Core.Path.{_≡_, refl, sym, ap, _∙_}
 use mathlib.Core.Logic.{_≢_}
@@ -16,7 +16,7 @@ use Rattle.record_format.specs.Gate.{Gate, gateOf, inverseList}
 use Rattle.record_format.specs.Row.{Fault, Row, row, first}
 use Rattle.record_format.specs.Reading.{size, count, qubits, gates, badQubits, gateRows, recordRows, accepted, refused, unless, read}
 use Rattle.record_format.specs.Answer.{gives, refuses, fields, faultOf}
-use Rattle.record_format.specs.Writing.{encode, outcome, write, start, add, inverse}
+use Rattle.record_format.specs.Writing.{faultOr, encode, outcome, write, start, add, inverse}
 use Rattle.record_format.specs.Report.{reportBytes, reportRows, writeReport, readReport}
 use Rattle.record_format.specs.Promises.{NoneHolds, RefusedByFirstRow, AcceptedByNoRow, WellFormed, AcceptedIsSound, EncodedIsAccepted, StartReadsBack, AddReadsBack, InverseReadsBack, InverseTwice, ReportReadsBack, FirstHolds, writerRows, RefusedWriterChangesNothing, WriterKeepsTheRest, FaultTells}
 use Rattle.record_format.specs.declared.Report.{Report}
@@ -33,6 +33,11 @@ one-reading h = let z : _≡_ {A = ℕ} 0 1 = cc in omega arith
 -- an answer does not both give and refuse
 pub one-answer : {values : List ℕ} {f : Fault} → gives values ≡ refuses f → ⊥
 one-answer h = let z : _≡_ {A = ℕ} 0 1 = cc in omega arith
+
+-- an answer that refuses is that of the first fault
+pub read-refused : (o : Option Fault) (values : List ℕ) (f : Fault) → faultOr o (gives values) ≡ refuses f → o ≡ some f
+read-refused none values f h = absurd (one-answer h)
+read-refused (some h) values f e = cc
 
 -- a refused record is stopped by the fault that it is refused for
 pub stopped : (s : List ℕ) (f : Fault) → read s ≡ refused f → first (recordRows s) ≡ some f

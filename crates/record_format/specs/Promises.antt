@@ -4,15 +4,15 @@
 use mathlib.Core.Path.{_≡_}
 use mathlib.Core.Logic.{_↔_}
 use Prim.Native.Nat.{ℕ, _≤_, _<_}
-use mathlib.Core.Bool.{Bool, true, false, _||_}
+use mathlib.Core.Bool.{Bool, true, false, cond, _||_}
 use mathlib.Core.Option.{Option, none, some}
 use mathlib.Core.List.{List, [], _∷_, _++_}
 use lib.ListN.{length, take, drop}
 use lib.Dec.{ltb, eqb}
-use Rattle.record_format.specs.Format.{mostQubits, mostGates, Bytes}
+use Rattle.record_format.specs.Format.{listMark, headSize, reportSize, mostQubits, mostGates, Bytes}
 use Rattle.record_format.specs.Gate.{Gate, Raw, AllWithin, gateOf, inverseList}
-use Rattle.record_format.specs.Row.{Fault, Row, row}
-use Rattle.record_format.specs.Reading.{size, count, qubits, rawAt, gates, headRows, gateRows, recordRows, accepted, refused, read}
+use Rattle.record_format.specs.Row.{Fault, fault, Row, row}
+use Rattle.record_format.specs.Reading.{size, count, qubits, marked, rawAt, gates, headRows, gateRows, recordRows, accepted, refused, read}
 use Rattle.record_format.specs.Answer.{gives, refuses, faultOf, fields}
 use Rattle.record_format.specs.Writing.{encode, checkAnswer, write, start, add, inverse}
 use Rattle.record_format.specs.Report.{writeReport, readReport}
@@ -124,6 +124,37 @@ WriterKeepsTheRest =
 -- number and index together tell which refusal it is
 abbrev pub FaultTells : Type 0
 FaultTells = (r r′ : Refusal) → faultOf r ≡ faultOf r′ → r ≡ r′
+
+-- number 1 is that of a cut head alone: fewer than five bytes
+abbrev pub CutHeadIs1 : Type 0
+CutHeadIs1 = (s : List ℕ) → (read s ≡ refused (fault 1)) ↔ (length s < headSize)
+
+-- a head within the limits, and fewer bytes than it says
+pub record CutBody (s : List ℕ) : Type 0 where
+  pub head : headSize ≤ length s
+  pub mark : marked listMark s ≡ true
+  pub some-qubit : 1 ≤ qubits s
+  pub few-qubits : qubits s ≤ mostQubits
+  pub few-gates : count s ≤ mostGates
+  pub cut : length s < size (count s)
+
+-- number 13 is that of a cut body alone
+abbrev pub CutBodyIs13 : Type 0
+CutBodyIs13 = (s : List ℕ) → (read s ≡ refused (fault 13)) ↔ CutBody s
+
+-- so a record that was cut tells where: in its head by 1, behind it by 13
+abbrev pub CutIsTold : Type 0
+CutIsTold =
+    (n : ℕ) (gs : List Gate) (k : ℕ)
+    → 1 ≤ n
+    → n ≤ mostQubits
+    → length gs ≤ mostGates
+    → k < size (length gs)
+    → read (take k (encode n gs)) ≡ refused (fault (cond (ltb k headSize) 1 13))
+
+-- of reports, 1 is that of fewer than twelve bytes
+abbrev pub CutReportIs1 : Type 0
+CutReportIs1 = (s : List ℕ) → (readReport s ≡ refuses (fault 1)) ↔ (length s < reportSize)
 
 -- the gate at index i is a record's first bad one: head and body pass, every gate before it passes all of its rows, and f is the fault
 -- of the first of its own rows that holds
