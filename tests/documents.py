@@ -1,12 +1,13 @@
 #!/usr/bin/env python3
 """Holds the documents to the repository: every definition, theorem, function and edit that docs/DEMANDS.md cites exists, every edit is
 cited there, and every crate stands in README.md and crates.txt. Every name and file that a document writes as code is there, every file of
-tests/ stands in tests/README.md, README.md has the exit statuses of the script and the list that is undecided against itself, and no
-document has a path of one machine.
+tests/ stands in tests/README.md, README.md has the exit statuses of the script, every case of a refusal with its number and the list that is
+undecided against itself, and no document has a path of one machine.
 
     python3 tests/documents.py
 """
 import glob
+import itertools
 import os
 import re
 import sys
@@ -89,10 +90,22 @@ def readme_faults(crates):
     return faults
 
 
+def refusal_faults():
+    """README.md's cases of a refusal, each with its number, against those of the code."""
+    told = [
+        pair
+        for cases, numbers in re.findall(r"^\| (`[A-Z].*?) \| ([\d, ]+) \|", text("README.md"), flags=re.M)
+        for pair in itertools.zip_longest(re.findall(r"`([A-Z]\w+)`", cases), numbers.split(", "))
+    ]
+    code = text("crates/record_format/src/lib.rt") + text("crates/comparison_types/src/lib.rt")
+    cases = re.findall(r"Refusal::(\w+)(?: \{ gate: _ \})? => (\d+),", code)
+    return [] if sorted(told) == sorted(cases) else [f"README.md has other refusals than the code: {set(told) ^ set(cases)}"]
+
+
 def main():
     crates = sorted(os.path.basename(os.path.dirname(p)) for p in found("crates/*/src"))
     faults, edits = edit_faults(text("docs/DEMANDS.md"), crates)
-    faults += name_faults(crates) + readme_faults(crates)
+    faults += name_faults(crates) + readme_faults(crates) + refusal_faults()
     told = text("tests/README.md")
     tests = [os.path.basename(path) for path in sorted(found("tests/*.*")) if not path.endswith("README.md")]
     faults += [f"tests/README.md does not name {name}" for name in tests if f"\n| `{name}` |" not in told]

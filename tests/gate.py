@@ -191,6 +191,8 @@ def try_documents(folder):
         ("a file that is not there", "README.md", "`docs/DECISIONS.md`", "`docs/DECISION.md`", "docs/DECISION.md"),
         ("a path of one machine", "README.md", "## Calls", "See /some/where/else.\n\n## Calls", "/some/where"),
         ("an exit status", "README.md", "| 74 |", "| 73 |", "exit statuses"),
+        ("another number of a refusal", "README.md", "| `BodyShort` | 13 |", "| `BodyShort` | 1 |", "refusals"),
+        ("a refusal not told", "README.md", "| `UnknownVerdict` | 5 |", "| no verdict | 5 |", "UnknownVerdict"),
         ("undecided against itself", "README.md", "even against itself", "sometimes", "against itself"),
         ("a test not named", "tests/README.md", "`classes.py`", "`clases.py`", "classes.py"),
         ("a crate not listed", "crates.txt", "\nrecords:", "\nrecord:", "records"),

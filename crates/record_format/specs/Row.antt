@@ -19,7 +19,7 @@ fault k = record { number = k; index = none }
 abbrev pub faultAt : ℕ → ℕ → Fault
 faultAt i k = record { number = k; index = some i }
 
--- a fault, of records or of what F says, and whether its condition holds
+-- a fault, of records or of another type F, and whether its condition holds
 pub record Row (F : Type 0) : Type 0 where
   pub fault : F
   pub when : Bool
@@ -32,7 +32,7 @@ row k c = record { fault = fault k; when = c }
 abbrev pub gateRow : ℕ → ℕ → Bool → Row Fault
 gateRow i k c = record { fault = faultAt i k; when = c }
 
--- a row whose fault is told as g tells it
+-- the same row, its fault told by g
 abbrev pub told : {F G : Type 0} → (F → G) → Row F → Row G
 told g r = record { fault = g (r .fault); when = r .when }
 
