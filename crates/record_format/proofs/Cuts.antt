@@ -125,7 +125,8 @@ cut-is-told n gs k some-qubit few-qubits few cut = go (ltb k headSize) refl
         let head : List ℕ = headBytes n (length gs) in
         let rest : List ℕ = take (k - headSize) (bodyBytes gs) in
         let short : length rest < gateSize * length gs = rw (length-take, length-body) (omega arith) in
-        let parts : take k (encode n gs) ≡ head ++ rest = ap (λ (j : ℕ). take j (encode n gs)) same ∙ take-append-add head (bodyBytes gs) (k - headSize) in
+        let parts : take k (encode n gs) ≡ head ++ rest =
+        ap (λ (j : ℕ). take j (encode n gs)) same ∙ take-append-add head (bodyBytes gs) (k - headSize) in
         ap read parts ∙ cut-body-is-13 (head ++ rest) .1 (cut-behind n (length gs) rest some-qubit few-qubits few short)
 
 -- of reports, 1 is fewer than twelve bytes

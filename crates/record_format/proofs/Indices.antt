@@ -10,7 +10,7 @@ use mathlib.Core.Option.{Option, none, some, Option·none-ne-some, Option·some-
 use mathlib.Core.List.{List, [], _∷_, _++_}
 use lib.ListN.{length}
 use lib.Dec.{eqb, ltb, leb}
-use borrow.Author.Tests.{ltb-false, leb-true, leb-false, eqb-true, eqb-false, ne-eqb}
+use borrow.Author.Tests.{leb-true, leb-false, eqb-true, eqb-false, ne-eqb}
 use Rattle.record_format.specs.Format.{mostGates}
 use Rattle.record_format.specs.Gate.{Gate, Raw, gateOf}
 use Rattle.record_format.specs.Row.{Fault, fault, Row, row, first}
@@ -21,7 +21,7 @@ use Rattle.record_format.specs.Writing.{Outcome, encode, write, start, a
 use Rattle.record_format.specs.Report.{reportRows, writeReport, readReport}
 use Rattle.record_format.specs.Promises.{FirstHolds, writerRows, FirstBadGate, IndexIsFirstBad, AddedGateIndex, RecordsFaultIsKept, IndexedAsAGate, OnlyGatesHaveAnIndex}
 use Rattle.record_format.proofs.Rows.{none-holds, first-holds, first-none, first-some, AllFaults, all-both, first-is}
-use Rattle.record_format.proofs.Reading.{gates-all, rowsFrom, rowsFrom-end, pass-good, stop-bad, Accepts, accepts}
+use Rattle.record_format.proofs.Reading.{gates-all, rowsFrom, rowsFrom-end, pass-good, stop-bad, whole-body, Accepts, accepts}
 use Rattle.record_format.proofs.Theorems.{stopped, read-refused, refused-writer-changes-nothing}
 use Rattle.record_format.proofs.Writers.{write-refused, first-to-add}
 
@@ -59,14 +59,15 @@ one-more s n g k i f good later =
     go j from to true same = rw (eqb-true j k same) good
     go j from to false other = let apart : (j ≡ k → ⊥) = eqb-false j k other in later .pass j (omega arith) to
 
--- of a record's gates from index k on, of which there are left, the first fault is that of the first bad one
+-- the first fault of a record's gates from index k on, of which so many are left at most, is that of the first bad one
 first-bad :
     (s : List ℕ) (n g : ℕ) (f : Fault) → size g ≤ length s → (left k : ℕ) → g ≤ k + left → first (rowsFrom s n g k) ≡ some f
     → (i : ℕ) × FirstBad s n g k i f
 unfolding first
 first-bad s n g f whole zero k few h =
     absurd (Option·none-ne-some f (sym (ap first (rowsFrom-end s n g k (omega arith))) ∙ h))
-first-bad s n g f whole (suc left) k few h = go (leb g k) refl (first (gateRows n k (rawAt s k))) refl (first-bad s n g f whole left (k + 1) (omega arith))
+first-bad s n g f whole (suc left) k few h =
+    go (leb g k) refl (first (gateRows n k (rawAt s k))) refl (first-bad s n g f whole left (k + 1) (omega arith))
   where
     go : (b : Bool) → leb g k ≡ b → (o : Option Fault) → first (gateRows n k (rawAt s k)) ≡ o
         → (first (rowsFrom s n g (k + 1)) ≡ some f → (i : ℕ) × FirstBad s n g (k + 1) i f)
@@ -99,10 +100,6 @@ of-head s f = first-some (headRows s) (allGateRows (qubits s) 0 (raws (body s)))
 of-gates : (s : List ℕ) → first (headRows s) ≡ none → first (recordRows s) ≡ first (rowsFrom s (qubits s) (count s) 0)
 unfolding recordRows
 of-gates s good = first-none (headRows s) (allGateRows (qubits s) 0 (raws (body s))) good ∙ rw sub-zero
-
--- the body of such a record is whole
-whole-body : (s : List ℕ) → first (headRows s) ≡ none → size (count s) ≤ length s
-whole-body s good = ltb-false (length s) (size (count s)) (none-holds (headRows s) .0 good .1 .1 .1 .1 .0)
 
 -- the index is that of the first gate that one of its rows applies to
 pub index-is-first-bad : IndexIsFirstBad
@@ -146,13 +143,15 @@ module _ (r : Raw) (l : List ℕ) (n : ℕ) (gs : List Gate) (is : read l ≡ ac
   there : Accepts l n (length gs)
   there = accepts l (Accepted n (length gs)) n (length gs) (rw is) refl
 
-  -- the rows before that of the buffer, and the record that adding writes
-  abbrev rows : List (Row Fault)
-  rows = recordRows l ++ row 4 (eqb (count l) mostGates) ∷ gateRows (qubits l) (count l) r
-
+  -- the record that adding writes
   abbrev new : List ℕ
   new = encode (qubits l) (gates l ++ gateOf r ∷ [])
 
+  -- the rows that are tried before the buffer's
+  abbrev rows : List (Row Fault)
+  rows = recordRows l ++ row 4 (eqb (count l) mostGates) ∷ gateRows (qubits l) (count l) r
+
+  -- that of the buffer
   abbrev short : List (Row Fault)
   short = row 11 (ltb (length l) (length new)) ∷ []
 

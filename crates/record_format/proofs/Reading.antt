@@ -86,6 +86,10 @@ module _ (s : List ℕ) (n g i : ℕ) (found : GateCheck) (h : i < g) (whole : 5
   pub stop-checked : {r : Refusal} → found ≡ GateCheck.Refused r → first (rowsFrom s n g i) ≡ some (faultOf r)
   stop-checked {r} is = stop-bad s n g i (faultOf r) h whole (sym faults ∙ ap gateFault is)
 
+-- where no row stops head and body, the body is whole
+pub whole-body : (s : List ℕ) → first (headRows s) ≡ none → size (count s) ≤ length s
+whole-body s good = ltb-false (length s) (size (count s)) (none-holds (headRows s) .0 good .1 .1 .1 .1 .0)
+
 -- a head that is accepted: no row stops it, n and g are its own, and the body is whole
 pub record HeadPassed (s : List ℕ) (n g : ℕ) : Type 0 where
   pub good : first (headRows s) ≡ none
@@ -104,7 +108,7 @@ head-gives s n g = go (first (headRows s)) refl
           good = e;
           n-is = cc;
           g-is = cc;
-          whole = ltb-false (length s) (size (count s)) (none-holds (headRows s) .0 e .1 .1 .1 .1 .0);
+          whole = whole-body s e;
         }
     go (some f) e h = let z : _≡_ {A = ℕ} 0 1 = cc in absurd (omega arith)
 
