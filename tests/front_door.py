@@ -20,6 +20,9 @@ import tempfile
 import time
 import tty
 
+sys.dont_write_bytecode = True
+import reference
+
 ROOT = os.path.realpath(os.path.join(os.path.dirname(os.path.abspath(__file__)), ".."))
 PROGRAM = os.path.join(ROOT, "target", "bin", "compare")
 SCRIPT = os.path.join(ROOT, "compare")
@@ -688,11 +691,27 @@ def gates_texts(room):
     check("encode, no UTF-8", run([GATES, "encode", "-", "-"], input=b"qubits 1\nH \xff\n")[:2], (1, b""))
 
 
+def gate_of(data):
+    """The index of the gate that a record is refused at, by the independent implementation; nothing where there is none."""
+    try:
+        reference.read_record(data)
+    except reference.Refused as refusal:
+        return "" if refusal.index is None else str(refusal.index)
+    return ""
+
+
+def told(number, index=0):
+    """A refusal as decode tells it: a gate's with the gate's index."""
+    return f"{number}, gate {index}" if number in (5, 6, 7) else f"{number}"
+
+
 def gates_records(room):
     """What decode refuses, held to the program's number for the same file; usage and files."""
-    for number, bad in [*BAD.items(), *((number, bad) for _, bad, number in ORDER), (12, EXAMPLE + b"\0")]:
-        got = run([GATES, "decode", "-", os.path.join(room.path, "text")], input=bad)
-        check(f"decode, refused {number}", got, (1, b"", f"gates: -: refused {number}\n"))
+    bad = [(told(number), data) for number, data in BAD.items()] + [(told(number), data) for _, data, number in ORDER]
+    bad += [(told(7, i), FULL[: 7 + 3 * i] + b"\0" + FULL[8 + 3 * i :]) for i in (0, 1, 255, 256, 511)]
+    for why, data in [*bad, (told(12), EXAMPLE + b"\0")]:
+        got = run([GATES, "decode", "-", os.path.join(room.path, "text")], input=data)
+        check(f"decode, refused {why}", got, (1, b"", f"gates: -: refused {why}\n"))
     check("decode, nothing written", os.path.exists(os.path.join(room.path, "text")), False)
     for words in ([], ["encode"], ["encode", "-"], ["decode"], ["decode", "a", "b", "c"], ["recode", "a", "b"]):
         status, out, err = run([GATES, *words])
@@ -707,7 +726,6 @@ def gates_records(room):
             check(f"gates, /dev/full {words}", run([GATES, *words], input=EXAMPLE, stdout=full)[0], 74)
     check("gates, folder as target", run([GATES, "decode", "-", room.path], input=EXAMPLE)[:2], (74, b""))
     loader = importlib.machinery.SourceFileLoader("gates", GATES)
-    sys.dont_write_bytecode = True
     gates = importlib.util.module_from_spec(importlib.util.spec_from_loader("gates", loader))
     loader.exec_module(gates)
     rng, seen = random.Random(20261116), set()
@@ -717,10 +735,11 @@ def gates_records(room):
             data[rng.randrange(len(data))] = rng.choice((0, 1, 2, 7, 9, 10, 11, 16, 17, 0x43, 0x51, 255))
         data = bytes(data)[: rng.randint(3, len(data) + 20)] + bytes(rng.choice((0, 0, 1)))
         out = run([PROGRAM, room.file(data, "mutant"), room.file(NOTHING)])[1].decode().split()
-        want = int(out[1]) if out[0] == "refused" and out[1] not in ("8", "9") else 0
+        want = out[1] if out[0] == "refused" and out[1] not in ("8", "9") else ""
+        got, _, gate = gates.refusal(data).partition(", gate ")
         seen.add(want)
-        check(f"refusal of {data.hex()}", gates.refusal(data), want)
-    check("refusals that came up", seen, {0, 1, 2, 3, 4, 5, 6, 7, 12, 13})
+        check(f"refusal of {data.hex()}", (got, gate), (want, gate_of(data)))
+    check("refusals that came up", seen, {"", "1", "2", "3", "4", "5", "6", "7", "12", "13"})
 
 
 def main():
