@@ -7,12 +7,13 @@ use mathlib.Core.List.{List, [], _∷_}
 use mathlib.Core.Option.{Option, none, some}
 use lib.ListN.{replicate}
 use Rattle.record_format.specs.Format.{lastVerdict}
-use Rattle.record_format.specs.Gate.{Gate, one, H}
+use Rattle.record_format.specs.Gate.{Gate, one, Z, S, T, H}
 use Rattle.record_format.specs.Row.{first}
 use Rattle.record_format.specs.Reading.{accepted}
 use Rattle.amplitude.specs.Circuit.{tally}
+use Rattle.comparison_meaning.specs.Verdict as verdict
 use Rattle.comparison_meaning.specs.Verdict.{equal, different, undecided, number}
-use Rattle.comparison_types.specs.Call.{verdictNumber, verdictOf, workspaceRows, pairFault, PairFault, ofPair, refuses, leftBy, theSecond, pickedAt}
+use Rattle.comparison_types.specs.Call.{verdictNumber, verdictOf, workspaceRows, pairFault, PairFault, ofPair, says, refuses, leftBy, Choice, theFirst, theSecond, choice, pickedAt}
 use Rattle.comparison_types.specs.declared.Verdict.{Verdict}
 use Rattle.comparison_types.specs.declared.Verdict.the-variants.{Equal, Different, Undecided}
 
@@ -56,6 +57,29 @@ places-limit = (refl, (refl, refl))
 -- a refused call leaves a workspace as it was
 pub refused-leaves : leftBy (refuses (ofPair 8)) (1 ∷ 2 ∷ []) ≡ 1 ∷ 2 ∷ []
 refused-leaves = refl
+
+-- what the pick chooses of two lists on one qubit that have this verdict
+abbrev chosen : verdict.Verdict → List Gate → List Gate → Choice
+chosen v gs hs =
+    choice
+    (says (record { verdict = v; first = 0; second = 0; pins = 0; sums = 0; turns = 0; joins = 0; left = 0 }))
+    (accepted 1 gs)
+    (accepted 1 hs)
+
+-- T T against S: the second where they are equal, else the first
+pub fewer-t-gates :
+    (chosen equal (one T 0 ∷ one T 0 ∷ []) (one S 0 ∷ []) ≡ theSecond)
+    × ((chosen different (one T 0 ∷ one T 0 ∷ []) (one S 0 ∷ []) ≡ theFirst)
+    × (chosen undecided (one T 0 ∷ one T 0 ∷ []) (one S 0 ∷ []) ≡ theFirst))
+unfolding choice tally
+fewer-t-gates = (refl, (refl, refl))
+
+-- with as many T gates the shorter one, and the first where both are as long
+pub on-a-tie :
+    (chosen equal (one S 0 ∷ one S 0 ∷ []) (one Z 0 ∷ []) ≡ theSecond)
+    × ((chosen equal (one Z 0 ∷ []) (one S 0 ∷ one S 0 ∷ []) ≡ theFirst) × (chosen equal (one Z 0 ∷ []) (one Z 0 ∷ []) ≡ theFirst))
+unfolding choice tally
+on-a-tie = (refl, (refl, refl))
 
 -- the second record is handed back where the caller has it
 pub second-starts : pickedAt {B = ℕ} theSecond 0 1 ≡ 1
