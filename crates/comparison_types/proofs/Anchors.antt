@@ -3,16 +3,16 @@
 use mathlib.Core.Path.{_≡_, refl}
 use Prim.Native.Nat.{ℕ, _≤_}
 use native.Mathlib.Omega.{arith}
-use mathlib.Core.List.{List, [], _∷_}
+use mathlib.Core.List.{List, [], _∷_, _++_}
 use mathlib.Core.Option.{Option, none, some}
-use lib.ListN.{replicate}
+use lib.ListN.{drop, replicate}
 use Rattle.record_format.specs.Format.{lastVerdict}
 use Rattle.record_format.specs.Gate.{Gate, one, Z, S, T, H}
 use Rattle.record_format.specs.Row.{first}
 use Rattle.record_format.specs.Reading.{accepted}
 use Rattle.amplitude.specs.Circuit.{tally}
 use Rattle.comparison_meaning.specs.Verdict as verdict
-use Rattle.comparison_meaning.specs.Verdict.{equal, different, undecided, number}
+use Rattle.comparison_meaning.specs.Verdict.{Result, equal, different, undecided, number}
 use Rattle.comparison_types.specs.Call.{verdictNumber, verdictOf, workspaceRows, pairFault, PairFault, ofPair, says, refuses, leftBy, Choice, theFirst, theSecond, choice, pickedAt}
 use Rattle.comparison_types.specs.declared.Verdict.{Verdict}
 use Rattle.comparison_types.specs.declared.Verdict.the-variants.{Equal, Different, Undecided}
@@ -57,6 +57,10 @@ places-limit = (refl, (refl, refl))
 -- a refused call leaves a workspace as it was
 pub refused-leaves : leftBy (refuses (ofPair 8)) (1 ∷ 2 ∷ []) ≡ 1 ∷ 2 ∷ []
 refused-leaves = refl
+
+-- an accepted one leaves zeros up to place 3,135, and what stood behind that
+pub accepted-leaves : (r : Result) → drop 3135 (leftBy (says r) (replicate 3136 5 ++ 8 ∷ 9 ∷ [])) ≡ 0 ∷ 8 ∷ 9 ∷ []
+accepted-leaves r = refl
 
 -- what the pick chooses of two lists on one qubit that have this verdict
 abbrev chosen : verdict.Verdict → List Gate → List Gate → Choice
