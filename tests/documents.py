@@ -97,7 +97,7 @@ def refusal_faults():
         for cases, numbers in re.findall(r"^\| (`[A-Z].*?) \| ([\d, ]+) \|", text("README.md"), flags=re.M)
         for pair in itertools.zip_longest(re.findall(r"`([A-Z]\w+)`", cases), numbers.split(", "))
     ]
-    code = text("crates/record_format/src/lib.rt") + text("crates/comparison_types/src/lib.rt")
+    code = text("crates/record_bytes/src/lib.rt") + text("crates/comparison_types/src/lib.rt")
     cases = re.findall(r"Refusal::(\w+)(?: \{ gate: _ \})? => (\d+),", code)
     return [] if sorted(told) == sorted(cases) else [f"README.md has other refusals than the code: {set(told) ^ set(cases)}"]
 

@@ -8,7 +8,7 @@ use calls_text::Bytes;
 use calls_text::NO_DIGIT;
 use calls_text::byte;
 use calls_text::digit;
-use record_format::NO_QUBIT;
+use record_bytes::NO_QUBIT;
 use record_format::gate;
 use records::Written;
 use records::add;

@@ -1,5 +1,5 @@
--- The line that the program prints for a pair: document 01, "Where a call is turned down". Number 12 stands behind the lists' own numbers and before
--- those of the pair.
+-- The line that the program prints for a pair: document 01, "Where a call is turned down". Number 12 stands behind the lists' own numbers
+-- and before those of the pair.
 -- Assumes nothing.
 use Prim.Native.Nat.{ℕ}
 use mathlib.Core.Bool.{Bool, true, false, cond, _&&_}

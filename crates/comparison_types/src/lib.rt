@@ -54,8 +54,8 @@ pub fn number(r: Refusal) -> u8
     ensures { λ k. ⌜ k ≡ numberOf r ⌝ }
 {
     match r {
-        Refusal::First(refusal) => record_format::number(refusal),
-        Refusal::Second(refusal) => record_format::number(refusal),
+        Refusal::First(refusal) => record_bytes::number(refusal),
+        Refusal::Second(refusal) => record_bytes::number(refusal),
         Refusal::QubitsDiffer => 8,
         Refusal::TooManyVariables => 9,
         Refusal::WorkspaceShort => 10,

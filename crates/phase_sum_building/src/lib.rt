@@ -22,7 +22,7 @@ use phase_sum_types::Phase;
 use phase_sum_types::Run;
 use phase_sum_types::Set;
 use phase_sum_types::Sum;
-use record_format::gate::inverse_kind;
+use record_bytes::inverse_kind;
 
 // A whole list of gates, by its bytes, in list order.
 pub fn forwards(

@@ -5,7 +5,6 @@ use calls_text::are_below;
 use calls_text::are_numbers;
 use calls_text::number;
 use calls_text::print;
-use record_format::gate;
 use record_format::gate::GateCheck;
 use records::Checked;
 use records::Report;
@@ -57,7 +56,7 @@ fn check_gate(numbers: &[u8]) {
     let kind = byte_at(numbers, 2);
     let a = byte_at(numbers, 3);
     let b = byte_at(numbers, 4);
-    match gate::check_gate(n, index, kind, a, b) {
+    match record_bytes::check_gate(n, index, kind, a, b) {
         GateCheck::Good => print::text(b"good"),
         GateCheck::Refused(r) => refusals::show(r),
     }

@@ -1,28 +1,13 @@
 // The record layer, its base: gate-list and report records as bytes (document 01, "Gate lists as bytes", "Report, pick, builder", "Where a
-// call is turned down"). Here stand the format's definitions, the answers, the check of one gate and two-byte numbers. Licensees use `records`.
+// call is turned down"; document 02, item 1). Here stand the format's definitions and laws, and the types of the answers. Licensees use
+// `records`.
 pub mod gate;
-
-ghost use mathlib.Core.Path.{_≡_};
-ghost use Prim.Native.Nat.{_/_, _%_, _≤_};
-ghost use lib.ListN.{length};
-ghost use Rattle.record_format.specs.Format.{fromBytes};
-ghost use Rattle.record_format.specs.Reading.{marked};
-ghost use Rattle.record_format.specs.Answer.{numberOf};
 
 // The bytes of a record's head: mark, n, g.
 pub const HEAD_SIZE: usize = 5;
 
 // The bytes of a gate: kind, a, b.
 pub const GATE_SIZE: usize = 3;
-
-// The kinds up to this act on one qubit.
-pub const LAST_ONE_QUBIT: u8 = gate::H;
-
-// The kinds above it, up to this, act on two.
-pub const LAST_KIND: u8 = gate::SWAP;
-
-// b of a gate on one qubit.
-pub const NO_QUBIT: u8 = 255;
 
 // Why a call is turned down. specs/Answer.antt gives each case the table's number and the index of its gate.
 pub enum Refusal {
@@ -76,55 +61,4 @@ pub struct Report {
 pub enum ReportRead {
     Fields(Report),
     Refused(Refusal),
-}
-
-// The number of a refusal.
-pub fn number(r: Refusal) -> u8
-    ensures { λ k. ⌜ k ≡ numberOf r ⌝ }
-{
-    match r {
-        Refusal::Short => 1,
-        Refusal::WrongMark => 2,
-        Refusal::QubitCount => 3,
-        Refusal::GateCount => 4,
-        Refusal::BodyShort => 13,
-        Refusal::UnknownKind { gate: _ } => 5,
-        Refusal::SpareByte { gate: _ } => 7,
-        Refusal::QubitRange { gate: _ } => 6,
-        Refusal::UnknownVerdict => 5,
-        Refusal::BufferShort => 11,
-    }
-}
-
-// A two-byte number, low byte first.
-pub fn from_bytes(low: u8, high: u8) -> u16
-    ensures { λ r. ⌜ r ≡ fromBytes low high ⌝ }
-{
-    low as u16 + 256 * (high as u16)
-}
-
-// The low byte of a two-byte number.
-pub fn low_byte(x: u16) -> u8
-    ensures { λ r. ⌜ r ≡ x % 256 ⌝ }
-{
-    (x % 256) as u8
-}
-
-// The high byte of a two-byte number.
-pub fn high_byte(x: u16) -> u8
-    ensures { λ r. ⌜ r ≡ x / 256 % 256 ⌝ }
-{
-    (x / 256 % 256) as u8
-}
-
-// Do the bytes begin with this mark?
-pub fn has_mark(s: &[u8], mark: [u8; 2]) -> bool
-    requires { ⌜ 2 ≤ length (now s) ⌝ }
-    ensures { λ r. ⌜ r ≡ marked mark (now (s .entry)) ⌝ }
-{
-    if s[0] == mark[0] {
-        s[1] == mark[1]
-    } else {
-        false
-    }
 }

@@ -8,14 +8,14 @@ ghost use Rattle.record_format.specs.Reading.{raws, size, allGateRows, read};
 ghost use Rattle.record_format.specs.Writing.{checkAnswer, gatePart, gatesAt};
 ghost use Rattle.record_format.specs.Answer.{checkedAnswer, gateFault};
 ghost use Rattle.record_format.specs.Inner.{headAnswer};
+use record_bytes::check_gate;
+use record_bytes::from_bytes;
+use record_bytes::has_mark;
 use record_format::Checked;
 use record_format::GATE_SIZE;
 use record_format::HEAD_SIZE;
 use record_format::Refusal;
-use record_format::from_bytes;
 use record_format::gate::GateCheck;
-use record_format::gate::check_gate;
-use record_format::has_mark;
 
 // The numbers of the formats (specs/Format.antt), each named once.
 // The two bytes that a gate-list record begins with.

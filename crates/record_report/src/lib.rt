@@ -2,14 +2,14 @@
 ghost use mathlib.Core.Path.{_≡_};
 ghost use Rattle.record_format.specs.Answer.{writtenAnswer, reportAnswer};
 ghost use Rattle.record_format.specs.Report.{writeReport, readReport};
+use record_bytes::from_bytes;
+use record_bytes::has_mark;
+use record_bytes::high_byte;
+use record_bytes::low_byte;
 use record_format::Refusal;
 use record_format::Report;
 use record_format::ReportRead;
 use record_format::Written;
-use record_format::from_bytes;
-use record_format::has_mark;
-use record_format::high_byte;
-use record_format::low_byte;
 
 // The two bytes that a report record begins with.
 pub const REPORT_MARK: [u8; 2] = [0x51, 0x56];

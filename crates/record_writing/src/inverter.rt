@@ -10,12 +10,12 @@ ghost use Rattle.record_format.specs.Answer.{writtenAnswer};
 ghost use Rattle.record_format.specs.Inner.{inverseBytes};
 use crate::write_gate;
 use crate::write_head;
+use record_bytes::inverse_kind;
 use record_format::Checked;
 use record_format::GATE_SIZE;
 use record_format::HEAD_SIZE;
 use record_format::Refusal;
 use record_format::Written;
-use record_format::gate::inverse_kind;
 use record_reading::check;
 
 // The g gates of s, backwards and each inverted, behind the head in the buffer.

@@ -11,8 +11,8 @@ ghost use lib.ListN.{length, take, drop};
 ghost use mathlib.Core.List.{_∷_, _++_};
 ghost use Rattle.record_format.specs.Format.{headSize, gateSize};
 ghost use Rattle.record_format.specs.Writing.{headBytes};
-use record_format::high_byte;
-use record_format::low_byte;
+use record_bytes::high_byte;
+use record_bytes::low_byte;
 use record_reading::LIST_MARK;
 
 // A record's head at the front of a buffer.

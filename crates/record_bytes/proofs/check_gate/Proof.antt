@@ -1,10 +1,10 @@
--- `record_format::gate::check_gate` meets its contract: at each `return` the tests that led there say which row of `gateRows` is
+-- `record_bytes::check_gate` meets its contract: at each `return` the tests that led there say which row of `gateRows` is
 -- the first that holds.
 -- Assumes nothing.
 use borrow.Author.Tests.{le-ltb, lt-ltb, le-leb, lt-leb, eq-eqb, ne-eqb}
 use Rattle.record_format.specs.Row.{first}
-use Rattle.record_format.proofs.gate.check_gate.Statement.{statement}
-use Rattle.record_format.proofs.gate.check_gate.Tie as tie
+use Rattle.record_bytes.proofs.check_gate.Statement.{statement}
+use Rattle.record_bytes.proofs.check_gate.Tie as tie
 
 returns : tie.Need-returns
 unfolding first

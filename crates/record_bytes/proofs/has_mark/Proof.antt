@@ -1,9 +1,9 @@
--- `record_format::has_mark` meets its contract: the first test decides the first half of `marked`, the second is the answer.
+-- `record_bytes::has_mark` meets its contract: the first test decides the first half of `marked`, the second is the answer.
 -- Assumes nothing.
 use borrow.Author.Needs.{needs}
 use borrow.Author.Tests.{eq-eqb, ne-eqb}
-use Rattle.record_format.proofs.has_mark.Statement.{statement}
-use Rattle.record_format.proofs.has_mark.Tie as tie
+use Rattle.record_bytes.proofs.has_mark.Statement.{statement}
+use Rattle.record_bytes.proofs.has_mark.Tie as tie
 
 shared-slice-read-if1 : tie.Need-shared-slice-read-if1
 shared-slice-read-if1 c = search needs

@@ -1,9 +1,9 @@
--- `record_format::gate::inverse_kind` meets its contract: each arm is the case of `inverseNumber` with the same test.
+-- `record_bytes::inverse_kind` meets its contract: each arm is the case of `inverseNumber` with the same test.
 -- Assumes nothing.
 use borrow.Author.Tests.{ne-eqb}
 use Rattle.record_format.specs.Gate.{inverseNumber}
-use Rattle.record_format.proofs.gate.inverse_kind.Statement.{statement}
-use Rattle.record_format.proofs.gate.inverse_kind.Tie as tie
+use Rattle.record_bytes.proofs.inverse_kind.Statement.{statement}
+use Rattle.record_bytes.proofs.inverse_kind.Tie as tie
 
 returns : tie.Need-returns
 unfolding inverseNumber
