@@ -1,5 +1,7 @@
--- What a verdict means. In order: the numbers, bits of an input, the published matrices, and lists of gates as linear maps.
+-- What a verdict means. In order: the numbers, bits of an input, the published matrices, lists of gates as linear maps, and columns
+-- compared by computation.
 pub mod Number
 pub mod Bits
 pub mod Matrix
 pub mod Circuit
+pub mod Testing

@@ -1,0 +1,2 @@
+-- Columns of exact amplitudes in a lent slice.
+pub mod Columns

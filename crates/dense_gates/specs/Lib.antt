@@ -1,0 +1,2 @@
+-- Gates on a column.
+pub mod Gates

@@ -1,0 +1,2 @@
+-- Exact amplitudes in the machine's numbers.
+pub mod Numbers
