@@ -65,8 +65,11 @@ returns-3 c =
     let x = c .before .before .before .struct-told5 .given in
     let y = c .before .struct-told6 .given in
     let s = start (to-first second) .args in
-    rw (a-same (to-first second), b-same second,
-    bits-other (s .x .c) (s .y .c) (record { sfits = x .1 .1 .0 .1 }) (record { sfits = y .1 .1 .0 .1 }) (c .if3 .taken))
+    rw (
+      a-same (to-first second),
+      b-same second,
+      bits-other (s .x .c) (s .y .c) (record { sfits = x .1 .1 .0 .1 }) (record { sfits = y .1 .1 .0 .1 }) (c .if3 .taken),
+    )
 
 returns-4 : tie.Need-returns-4
 unfolding eqω

@@ -33,9 +33,11 @@ negative-requires-2 c κs = search needs
 times-low-power-requires-2 : tie.Need-times-low-power-requires-2
 times-low-power-requires-2 c κs =
     let last = c .before in
-    let s = last .before .before .before in
-    (omega (arith, last .if3 .left, last .before .if2 .left), omega (arith, s .pre .0),
-    rw (c .negative2 .ensures) (sized-neg mostDoublings _ (s .pre .1)))
+    let s = last .before .before .before in (
+      omega (arith, last .if3 .left, last .before .if2 .left),
+      omega (arith, s .pre .0),
+      rw (c .negative2 .ensures) (sized-neg mostDoublings _ (s .pre .1)),
+    )
 
 returns-4 : tie.Need-returns-4
 returns-4 c =
