@@ -1,8 +1,9 @@
 // The comparison: the checks on the pair, then building, pinning, reducing and the verdict.
 ghost use mathlib.Core.Path.{_≡_};
 ghost use lib.ListN.{length, replicate};
+ghost use Rattle.record_format.specs.Reading.{gatesIn};
 ghost use Rattle.phase_sum_types.specs.Workspace.{lent, before, after, Sized};
-ghost use Rattle.phase_sum_types.specs.Unmerged.{gatesIn, Buildable};
+ghost use Rattle.phase_sum_types.specs.Unmerged.{Buildable};
 ghost use Rattle.comparison_meaning.specs.Verdict.{compare};
 ghost use Rattle.comparison_types.specs.Call.{resultOf, saidOf, comparison, leftBy};
 ghost use Rattle.comparison_types.specs.Clauses.{Sound, Stops, Inputs, Clifford, CountsUp};

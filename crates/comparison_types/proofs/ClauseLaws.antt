@@ -14,7 +14,7 @@ use lib.Dec.{ltb}
 use borrow.Author.Tests.{ltb-false}
 use Rattle.record_format.specs.Format.{headSize, gateSize}
 use Rattle.record_format.specs.Gate.{Gate, inverseList}
-use Rattle.record_format.specs.Reading.{accepted, read}
+use Rattle.record_format.specs.Reading.{accepted, read, gatesIn}
 use Rattle.record_format.proofs.Rows.{none-holds}
 use Rattle.amplitude.specs.Circuit.{tally, hGates}
 use Rattle.amplitude.proofs.Linear.{tally-append}
@@ -22,7 +22,7 @@ use Rattle.phase_sum_meaning.specs.Building.{PathSum, build}
 use Rattle.phase_sum_meaning.specs.Room.{roomFor, room, mostVariables, places}
 use Rattle.phase_sum_meaning.proofs.Roominess.{room-build, tally-inverse-room}
 use Rattle.phase_sum_types.specs.Workspace.{setOf, over, Lent, members, Sized}
-use Rattle.phase_sum_types.specs.Unmerged.{gatesIn, Builds, Buildable}
+use Rattle.phase_sum_types.specs.Unmerged.{Builds, Buildable}
 use Rattle.phase_sum_types.specs.declared.Sum.{Sum}
 use Rattle.phase_sum_types.proofs.Storing.{over-padded}
 use Rattle.phase_sum_types.proofs.Acceptance.{buildable}

@@ -13,7 +13,7 @@ use borrow.Author.Tests.{lt-ltb, le-ltb, eq-eqb, ne-eqb}
 use Rattle.record_format.specs.Format.{headSize, gateSize}
 use Rattle.record_format.specs.Gate.{Gate}
 use Rattle.record_format.specs.Row.{Row, first}
-use Rattle.record_format.specs.Reading.{Reading, accepted, refused, read, size}
+use Rattle.record_format.specs.Reading.{Reading, accepted, refused, read, size, gatesIn}
 use Rattle.record_format.specs.Answer as list
 use Rattle.record_format.specs.Answer.{gives, refuses, checkedAnswer}
 use Rattle.record_format.specs.Writing.{checkAnswer, gatePart}
@@ -23,10 +23,9 @@ use Rattle.record_format.specs.declared.Checked.the-variants.{Accepted}
 use Rattle.record_format.proofs.Theorems.{accepted-is-sound}
 use Rattle.record_format.proofs.Reading.{Accepts, accepts}
 use Rattle.record_format.proofs.Rows.{first-none, first-some}
+use Rattle.record_format.proofs.Parts.{gates-of-part}
 use Rattle.amplitude.specs.Circuit.{tally, hGates}
 use Rattle.phase_sum_meaning.specs.Room.{mostVariables, places}
-use Rattle.phase_sum_types.specs.Unmerged.{gatesIn}
-use Rattle.phase_sum_types.proofs.Acceptance.{gates-of-part}
 use Rattle.phase_sum_types.proofs.Tallying.{one-h}
 use Rattle.comparison_types.specs.Call.{PairFault, inFirst, inSecond, ofPair, faultOf, pairRows, workspaceRows, pairFault}
 use Rattle.comparison_types.specs.Inner.{AcceptedWith, foundFault}

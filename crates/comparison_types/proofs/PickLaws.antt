@@ -13,12 +13,11 @@ use borrow.Author.Tests.{ltb-true, lt-ltb, le-ltb, eqb-true, eq-eqb, ne-eqb}
 use Rattle.record_format.specs.Format.{gateSize}
 use Rattle.record_format.specs.Gate.{Gate}
 use Rattle.record_format.specs.Row.{first}
-use Rattle.record_format.specs.Reading.{Reading, accepted, refused, read, count, size, body, recordRows}
+use Rattle.record_format.specs.Reading.{Reading, accepted, refused, read, count, size, body, recordRows, gatesIn}
 use Rattle.record_format.proofs.Encoding.{length-raws}
 use Rattle.amplitude.specs.Number.{√2^}
 use Rattle.amplitude.specs.Circuit.{hGates, tGates, column}
 use Rattle.amplitude.proofs.Linear.{ω^-zero}
-use Rattle.phase_sum_types.specs.Unmerged.{gatesIn}
 use Rattle.comparison_meaning.specs.Demands.{Accepted, SomePower}
 use Rattle.comparison_meaning.specs.Verdict.{Result}
 use Rattle.comparison_types.specs.Call.{PairFault, ofPair, faultOf, Said, says, refuses, verdictOf, resultOf, saidOf, workspaceRows, pairFault, compareRead, unlessFault, comparison, leftBy, better, Choice, theFirst, theSecond, nothing, isEqual, choice, picked, ownBytes, pickedPart, pickedAt}

@@ -2,8 +2,8 @@
 ghost use mathlib.Core.Path.{_≡_};
 ghost use Prim.Native.Nat.{ℕ};
 ghost use Rattle.record_format.specs.Gate.{gateOf, raw};
+ghost use Rattle.record_format.specs.Reading.{gatesIn};
 ghost use Rattle.amplitude.specs.Circuit.{isH, isT, tally, hGates, tGates};
-ghost use Rattle.phase_sum_types.specs.Unmerged.{gatesIn};
 ghost use Rattle.phase_sum_types.specs.Inner.{weightOf};
 use phase_sum_types::Weight;
 use record_format::gate;

@@ -5,15 +5,13 @@ use mathlib.Core.Path.{_≡_, refl, sym, ap, _∙_}
 use Prim.Native.Nat.{ℕ, zero, suc, _+_, _-_, _%_, _≤_, _<_}
 use native.Mathlib.Omega.{arith}
 use mathlib.Core.Bool.{Bool, true, false, cond, false≢true}
-use mathlib.Core.List.{List, [], _∷_, _++_, append-nil, map-append, reverse-append}
-use lib.ListN.{length, getD, set, take, drop, length-append, length-take, length-map}
-use lib.Seq.{take-add}
+use mathlib.Core.List.{List, [], _∷_, _++_, append-nil}
+use lib.ListN.{length, getD, set, length-append, length-map}
 use lib.Dec.{leb, ltb}
 use borrow.Author.Tests.{leb-true, leb-false, lt-leb, ltb-true, ltb-false}
 use Rattle.record_format.specs.Gate.{Gate, TwoQubit, one, two, X, Y, Z, S, S†, T, T†, H, CX, CZ, SWAP, Within, AllWithin, oneQubitKinds, twoQubitKinds, raw, gateOf, inverseNumber, inverseGate, inverseKind, inverseList}
-use Rattle.record_format.specs.Reading.{raws}
+use Rattle.record_format.specs.Reading.{gatesIn}
 use Rattle.record_format.proofs.GateLaws.{inverse-raw, within-append, within-inverse}
-use Rattle.record_format.proofs.Storing.{three-at}
 use Rattle.amplitude.specs.Circuit.{tally, isH, hGates}
 use Rattle.amplitude.proofs.Linear.{tally-append, hGates-inverse}
 use Rattle.phase_sum_meaning.specs.Sets.{single, from}
@@ -22,7 +20,7 @@ use Rattle.phase_sum_meaning.specs.Phase.{Term, Phase as Polynomial, addConstan
 use Rattle.phase_sum_meaning.specs.Building.{PathSum, initial, wire, setWire, withPhase, productBy, hadamardBy, gateBy}
 use Rattle.phase_sum_meaning.specs.Room.{roomFor, room, mostVariables}
 use Rattle.phase_sum_types.specs.Workspace.{setOf, held, setsOf, coeffsOf, over, Stored, merged, Phased, alone, parityOf, zipWires, Lent, slices, wiresIn, members}
-use Rattle.phase_sum_types.specs.Unmerged.{gatesIn, putBehind, appendGate, appendGates, sumIn, Runnable, Leaves, movesOnly, Moves, Builds, Buildable}
+use Rattle.phase_sum_types.specs.Unmerged.{putBehind, appendGate, appendGates, sumIn, Runnable, Leaves, movesOnly, Moves, Builds, Buildable}
 use Rattle.phase_sum_types.specs.Inner.{appendPhase, onH}
 use Rattle.phase_sum_types.specs.declared.Set.{Set}
 use Rattle.phase_sum_types.specs.declared.Phase.{Phase}
@@ -485,46 +483,6 @@ first-fit gs hs {l′ = l′} run =
       sets = omega (arith, fits .sets);
       coeffs = omega (arith, fits .coeffs);
     }
-
--- the gate whose bytes stand from place i on
-abbrev pub gateAt : List ℕ → ℕ → Gate
-gateAt bytes i = gateOf (raw (getD bytes i 0) (getD bytes (i + 1) 0) (getD bytes (i + 2) 0))
-
--- the gates from place i on begin with it
-pub gates-from :
-    (bytes : List ℕ) (i : ℕ) →
-    i + 3 ≤ length bytes →
-    gatesIn (drop i bytes) ≡ gateAt bytes i ∷ gatesIn (drop (i + 3) bytes)
-unfolding raws
-gates-from bytes i l = rw (three-at bytes i l)
-
--- whole gates, and then more bytes
-raws-append : (xs ys : List ℕ) → length xs % 3 ≡ 0 → raws (xs ++ ys) ≡ raws xs ++ raws ys
-unfolding raws
-raws-append [] ys h = refl
-raws-append (x ∷ []) ys h = absurd (omega arith)
-raws-append (x ∷ y ∷ []) ys h = absurd (omega arith)
-raws-append (x ∷ y ∷ z ∷ xs) ys h = rw (raws-append xs ys (omega arith))
-
--- the gate that the bytes from place i on stand for, inverted
-abbrev pub inverseAt : List ℕ → ℕ → Gate
-inverseAt bytes i = gateOf (raw (inverseNumber (getD bytes i 0)) (getD bytes (i + 1) 0) (getD bytes (i + 2) 0))
-
--- the gates before place i, backwards and inverted, begin with the last of them
-pub inverse-before :
-    (bytes : List ℕ) (i : ℕ) →
-    i % 3 ≡ 0 →
-    0 < i →
-    i ≤ length bytes →
-    inverseList (gatesIn (take i bytes)) ≡ inverseAt bytes (i - 3) ∷ inverseList (gatesIn (take (i - 3) bytes))
-unfolding raws inverseList
-inverse-before bytes i h p l =
-    let j = i - 3 in
-    let back : i ≡ j + 3 = omega arith in
-    let whole : length (take j bytes) % 3 ≡ 0 = simp length-take (omega arith) in
-    let split : take i bytes ≡ take j bytes ++ take 3 (drop j bytes) = ap (λ (k : ℕ). take k bytes) back ∙ take-add j 3 bytes in
-    let three = three-at bytes j (omega arith) in
-    rw (split, three, raws-append (take j bytes) _ whole, map-append, map-append, reverse-append, inverse-raw)
 
 -- the gates of a pair in the order in which they run: the first list, then the second inverted
 abbrev pairGates : List ℕ → List ℕ → List Gate

@@ -5,18 +5,18 @@ use mathlib.Core.Path.{_≡_, refl}
 use Prim.Native.Nat.{ℕ, zero, suc, _+_, _-_, _≤_, _<_}
 use native.Mathlib.Omega.{arith}
 use mathlib.Core.Bool.{Bool, _||_}
-use mathlib.Core.List.{List, [], _∷_}
+use mathlib.Core.List.{List}
 use lib.ListN.{length, getD, drop, length-drop}
 use lib.Dec.{eqb}
 use borrow.Author.Tests.{lt-leb, ne-eqb}
 use Rattle.record_format.specs.Format.{lastOneQubit}
 use Rattle.record_format.specs.Gate.{Gate, OneQubit, TwoQubit, one, two, X, Y, Z, S, S†, T, T†, H, CX, CZ, SWAP, gateOf, raw, oneQubitKind}
-use Rattle.record_format.specs.Reading.{raws}
+use Rattle.record_format.specs.Reading.{raws, gatesIn}
 use Rattle.record_format.proofs.Storing.{three-at}
+use Rattle.record_format.proofs.Parts.{no-gate}
 use Rattle.amplitude.specs.Bits.{digit}
 use Rattle.amplitude.specs.Circuit.{tally, isH, isT}
 use Rattle.amplitude.proofs.BitLaws.{digit-below}
-use Rattle.phase_sum_types.specs.Unmerged.{gatesIn}
 use Rattle.phase_sum_types.specs.Inner.{weightOf}
 use Rattle.phase_sum_types.specs.declared.Weight.{Weight}
 use Rattle.phase_sum_types.specs.declared.Weight.the-variants as weight
@@ -117,14 +117,6 @@ counted-more {weight} {gates} {sum} {i} {r} most before left next =
     let weighs = next a b in
     let rest = rw (three-at gates i (omega arith)) at (before .rest) in
     record { inside = omega arith; small = omega (arith, most (gateOf (raw (getD gates i 0) a b))); rest = omega arith }
-
--- fewer than three bytes are no gate
-no-gate : (bytes : List ℕ) → length bytes < 3 → gatesIn bytes ≡ []
-unfolding raws
-no-gate [] l = refl
-no-gate (k ∷ []) l = refl
-no-gate (k ∷ a ∷ []) l = refl
-no-gate (k ∷ a ∷ b ∷ rest) l = absurd (omega arith)
 
 -- after the last turn all gates are counted
 pub counted-all :

@@ -4,11 +4,11 @@
 use mathlib.Core.Path.{_≡_}
 use Prim.Native.Nat.{ℕ, _+_, _-_, _%_, _≤_}
 use mathlib.Core.Bool.{Bool, cond}
-use mathlib.Core.List.{List, [], _∷_, _++_, map}
+use mathlib.Core.List.{List, [], _∷_, _++_}
 use lib.ListN.{length}
 use lib.Dec.{eqb}
-use Rattle.record_format.specs.Gate.{Gate, AllWithin, gateOf, inverseList}
-use Rattle.record_format.specs.Reading.{raws}
+use Rattle.record_format.specs.Gate.{Gate, AllWithin, inverseList}
+use Rattle.record_format.specs.Reading.{gatesIn}
 use Rattle.amplitude.specs.Circuit.{tally, hGates}
 use Rattle.phase_sum_meaning.specs.Sets.{from}
 use Rattle.phase_sum_meaning.specs.Parity.{Parity}
@@ -18,10 +18,6 @@ use Rattle.phase_sum_meaning.specs.Room.{roomFor, room, mostVariables}
 use Rattle.phase_sum_types.specs.Workspace.{Stored, Lent, phaseOf, wiresIn, Became}
 use Rattle.phase_sum_types.specs.declared.Run.{Run}
 use Rattle.phase_sum_types.specs.declared.Sum.{Sum}
-
--- the gates that bytes stand for, three bytes a gate
-abbrev pub gatesIn : List ℕ → List Gate
-gatesIn bytes = map gateOf (raws bytes)
 
 -- the gates of the first list, then those of the second backwards and each inverted, from the bytes of both
 abbrev pub miterIn : List ℕ → List ℕ → List Gate

@@ -16,7 +16,7 @@ use borrow.Author.Tests.{ltb-false, leb-true, leb-false, eqb-true, eqb-false, no
 use Rattle.record_format.specs.Format.{listMark, headSize, gateSize, mostQubits, mostGates, lastOneQubit, lastKind, noQubit, fromBytes, Bytes}
 use Rattle.record_format.specs.Gate.{Gate, OneQubit, X, Y, Z, S, S†, T, T†, H, TwoQubit, CX, CZ, SWAP, one, two, Within, AllWithin, oneQubitKinds, twoQubitKinds, Raw, raw, gateOf, oneQubitKind, twoQubitKind, gateBytes, bodyBytes, inverseKind, inverseNumber, inverseGate, inverseList}
 use Rattle.record_format.specs.Row.{first}
-use Rattle.record_format.specs.Reading.{size, count, qubits, body, raws, gates, badQubits, marked, headRows, gateRows, allGateRows, recordRows}
+use Rattle.record_format.specs.Reading.{size, count, qubits, body, raws, gatesIn, gates, badQubits, marked, headRows, gateRows, allGateRows, recordRows}
 use Rattle.record_format.specs.Writing.{headBytes, encode}
 use Rattle.record_format.specs.Promises.{NoneHolds}
 use Rattle.record_format.specs.Inner.{appended, inverseBytes}
@@ -65,7 +65,7 @@ raws-gate (one u a) rest = refl
 raws-gate (two v a b) rest = refl
 
 -- the bytes of gates stand for those gates
-pub raws-body : (gs : List Gate) → map gateOf (raws (bodyBytes gs)) ≡ gs
+pub raws-body : (gs : List Gate) → gatesIn (bodyBytes gs) ≡ gs
 unfolding bodyBytes raws
 raws-body [] = refl
 raws-body (g ∷ gs) = rw (raws-gate g (bodyBytes gs), gate-back g, raws-body gs)
@@ -172,7 +172,7 @@ gates-bytes :
     (n i : ℕ) (bs : List ℕ)
     → length bs % gateSize ≡ 0
     → first (allGateRows n i (raws bs)) ≡ none
-    → bodyBytes (map gateOf (raws bs)) ≡ bs
+    → bodyBytes (gatesIn bs) ≡ bs
 unfolding allGateRows raws bodyBytes
 gates-bytes n i [] h good = refl
 gates-bytes n i (k ∷ []) h good = absurd (omega arith)

@@ -9,3 +9,4 @@ pub mod Writers
 pub mod Theorems
 pub mod Indices
 pub mod Cuts
+pub mod Parts

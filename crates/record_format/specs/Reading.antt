@@ -38,13 +38,17 @@ raws (k ∷ []) = []
 raws (k ∷ a ∷ []) = []
 raws (k ∷ a ∷ b ∷ rest) = raw k a b ∷ raws rest
 
+-- the gates that bytes stand for, three bytes a gate
+abbrev pub gatesIn : List ℕ → List Gate
+gatesIn bytes = map gateOf (raws bytes)
+
 -- the three bytes of the gate at index i of a record
 abbrev pub rawAt : List ℕ → ℕ → Raw
 rawAt s i = raw (getD s (size i) 0) (getD s (size i + 1) 0) (getD s (size i + 2) 0)
 
 -- the gates of a record
 abbrev pub gates : List ℕ → List Gate
-gates s = map gateOf (raws (body s))
+gates s = gatesIn (body s)
 
 -- n is 0 or above 16
 abbrev pub badQubits : ℕ → Bool

@@ -6,9 +6,9 @@ use mathlib.Core.List.{[]}
 use Prim.Native.Nat.{_+_, _<_, _≤_}
 use native.Mathlib.Omega.{arith}
 use Rattle.record_format.specs.Row.{first}
+use Rattle.record_format.specs.Reading.{gatesIn}
 use Rattle.amplitude.specs.Circuit.{hGates}
 use Rattle.phase_sum_meaning.specs.Room.{mostVariables}
-use Rattle.phase_sum_types.specs.Unmerged.{gatesIn}
 use Rattle.comparison_types.proofs.PairLaws.{whole-of, gates-of, small, differ, too-many, below-decide}
 use Rattle.comparison_checking.proofs.check_sizes.Statement.{statement}
 use Rattle.comparison_checking.proofs.check_sizes.Tie as tie

@@ -9,11 +9,12 @@ use lib.ListN.{length, take}
 use lib.Seq.{take-length}
 use denote.Ref.{now}
 use Rattle.record_format.specs.Gate.{Gate, raw, gateOf, inverseList}
-use Rattle.record_format.specs.Reading.{raws}
+use Rattle.record_format.specs.Reading.{raws, gatesIn}
+use Rattle.record_format.proofs.Parts.{gateAt, inverseAt, inverse-before}
 use Rattle.phase_sum_types.specs.declared.Run.{Run}
 use Rattle.phase_sum_types.specs.Workspace.{Lent, slices}
-use Rattle.phase_sum_types.specs.Unmerged.{gatesIn, appendGates, sumIn, movesOnly, Runnable, Runs}
-use Rattle.phase_sum_types.proofs.Running.{AsLong, ToRun, none-run, one-run, all-run, first-fit, moves-leaves, gateAt, inverseAt, inverse-before, inverse-moves, inverse-stays}
+use Rattle.phase_sum_types.specs.Unmerged.{appendGates, sumIn, movesOnly, Runnable, Runs}
+use Rattle.phase_sum_types.proofs.Running.{AsLong, ToRun, none-run, one-run, all-run, first-fit, moves-leaves, inverse-moves, inverse-stays}
 use Rattle.phase_sum_building.proofs.backwards.Statement.{statement}
 use Rattle.phase_sum_building.proofs.backwards.Tie as tie
 

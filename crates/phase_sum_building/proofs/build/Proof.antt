@@ -6,10 +6,11 @@ use native.Mathlib.Omega.{arith}
 use lib.ListN.{length}
 use denote.Ref.{now}
 use Rattle.record_format.specs.Gate.{Gate, inverseList}
+use Rattle.record_format.specs.Reading.{gatesIn}
 use Rattle.phase_sum_meaning.specs.Building.{initial}
 use Rattle.phase_sum_types.specs.declared.Run.{Run}
 use Rattle.phase_sum_types.specs.Workspace.{Lent, slices, lent}
-use Rattle.phase_sum_types.specs.Unmerged.{gatesIn, miterIn, appendGates}
+use Rattle.phase_sum_types.specs.Unmerged.{miterIn, appendGates}
 use Rattle.phase_sum_types.proofs.Running.{ToRun, start-fits, half-run, last-run, all-variables, built}
 use borrow.Author.Needs.{needs}
 use Rattle.phase_sum_building.proofs.build.Statement.{statement}

@@ -5,11 +5,12 @@ use mathlib.Core.List.{List, [], _∷_}
 use Prim.Native.Nat.{ℕ, _+_, _-_, _%_, _≤_, _<_}
 use native.Mathlib.Omega.{arith}
 use lib.ListN.{length, drop, drop-of-length-le}
-use Rattle.record_format.specs.Reading.{raws}
+use Rattle.record_format.specs.Reading.{raws, gatesIn}
+use Rattle.record_format.proofs.Parts.{gateAt, gates-from}
 use Rattle.phase_sum_types.specs.declared.Run.{Run}
 use Rattle.phase_sum_types.specs.Workspace.{Lent, slices}
-use Rattle.phase_sum_types.specs.Unmerged.{gatesIn, appendGates, sumIn, Runnable, Runs, RunsAll}
-use Rattle.phase_sum_types.proofs.Running.{AsLong, ToRun, none-run, one-run, all-run, first-fit, moves-leaves, gateAt, gates-from}
+use Rattle.phase_sum_types.specs.Unmerged.{appendGates, sumIn, Runnable, Runs, RunsAll}
+use Rattle.phase_sum_types.proofs.Running.{AsLong, ToRun, none-run, one-run, all-run, first-fit, moves-leaves}
 use Rattle.phase_sum_building.proofs.forwards.Statement.{statement}
 use Rattle.phase_sum_building.proofs.forwards.Tie as tie
 

@@ -3,7 +3,7 @@
 use mathlib.Core.Path.{_∙_}
 use lib.ListN.{length}
 use denote.Ref.{now}
-use Rattle.phase_sum_types.specs.Unmerged.{gatesIn}
+use Rattle.record_format.specs.Reading.{gatesIn}
 use Rattle.phase_sum_types.proofs.Changing.{sized-stands}
 use Rattle.comparison_types.proofs.ClauseLaws.{built-sized, decided}
 use borrow.Author.Needs.{needs}

@@ -4,8 +4,8 @@ use mathlib.Core.Path.{_≡_}
 use Prim.Native.Nat.{_<_}
 use borrow.Author.Needs.{needs}
 use native.Mathlib.Omega.{arith}
+use Rattle.record_format.specs.Reading.{gatesIn}
 use Rattle.amplitude.specs.Circuit.{tGates}
-use Rattle.phase_sum_types.specs.Unmerged.{gatesIn}
 use Rattle.comparison_types.proofs.PickLaws.{better-fewer, better-more, better-shorter}
 use Rattle.comparison.proofs.picking.second_is_better.Statement.{statement}
 use Rattle.comparison.proofs.picking.second_is_better.Tie as tie

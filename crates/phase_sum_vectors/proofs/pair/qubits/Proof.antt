@@ -3,7 +3,7 @@
 use mathlib.Core.Path.{ap, sym, _∙_}
 use native.Mathlib.Omega.{arith}
 use Rattle.record_format.specs.Answer.{checkedAnswer}
-use Rattle.phase_sum_types.proofs.Acceptance.{accepted-by-check}
+use Rattle.record_format.proofs.Parts.{accepted-by-check}
 use borrow.Author.Needs.{needs}
 use Rattle.phase_sum_vectors.proofs.pair.qubits.Statement.{statement}
 use Rattle.phase_sum_vectors.proofs.pair.qubits.Tie as tie

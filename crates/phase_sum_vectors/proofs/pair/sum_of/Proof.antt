@@ -6,9 +6,10 @@ use Prim.Native.Nat.{ℕ, _+_, _≤_}
 use lib.ListN.{length, take, replicate}
 use lib.Seq.{length-take-le}
 use borrow.Author.Tests.{not-false}
+use Rattle.record_format.proofs.Parts.{gates-of-part}
 use Rattle.amplitude.specs.Circuit.{hGates}
 use Rattle.phase_sum_meaning.specs.Room.{mostVariables}
-use Rattle.phase_sum_types.proofs.Acceptance.{gates-of-part, buildable}
+use Rattle.phase_sum_types.proofs.Acceptance.{buildable}
 use borrow.Author.Needs.{needs}
 use Rattle.phase_sum_vectors.proofs.pair.sum_of.Statement.{statement}
 use Rattle.phase_sum_vectors.proofs.pair.sum_of.Tie as tie
