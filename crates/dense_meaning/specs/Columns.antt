@@ -17,10 +17,15 @@ unfoldable pub someOf : (ℕ → Bool) → List ℕ → Bool
 someOf test [] = false
 someOf test (k ∷ ks) = test k || someOf test ks
 
+-- the first of two that is there
+abbrev pub orElse : Option ℕ → Option ℕ → Option ℕ
+orElse (some v) o = some v
+orElse none o = o
+
 -- the first number below m that passes a test
 unfoldable pub firstBelow : (ℕ → Bool) → ℕ → Option ℕ
 firstBelow test zero = none
-firstBelow test (suc m) = elim (firstBelow test m) [ none ↦ cond (test m) (some m) none | some v ↦ some v ]
+firstBelow test (suc m) = orElse (firstBelow test m) (cond (test m) (some m) none)
 
 module _ (n : ℕ) (first second : List Gate) where
   -- ω^j fits all columns up to v

@@ -1,0 +1,2 @@
+-- Lists run on a column.
+pub mod Running

@@ -1,0 +1,1 @@
+// Lists run on a column.
