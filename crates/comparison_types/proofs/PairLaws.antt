@@ -138,15 +138,18 @@ module _ (below : List (Row PairFault)) where
   rest-decides (accepted n gs) (refused f) e = absurd (Option·none-ne-some (inSecond f) e)
   rest-decides (accepted n gs) (accepted m hs) e = first-none (pairRows n m gs hs) below (sym e)
 
--- the checks' answer with the workspaces' row below: that of the pair, or 10
-module _ (s t : List ℕ) (w c : ℕ) (r : PairCheck) (found : foundFault r ≡ pairFault (read s) (read t) []) where
+-- the checks' answer with a call's own rows below
+module _ (s t : List ℕ) (below : List (Row PairFault)) (r : PairCheck) (found : foundFault r ≡ pairFault (read s) (read t) []) where
   -- a pair that was refused is refused by the same fault
-  pub call-refused : {k : Refusal} → r ≡ PairCheck.Refused k
-      → some (faultOf k) ≡ pairFault (read s) (read t) (workspaceRows w c)
-  call-refused {k} is = still-refused (workspaceRows w c) (read s) (read t) (faultOf k) (sym (ap foundFault is) ∙ found)
+  pub call-refused : {k : Refusal} → r ≡ PairCheck.Refused k → some (faultOf k) ≡ pairFault (read s) (read t) below
+  call-refused {k} is = still-refused below (read s) (read t) (faultOf k) (sym (ap foundFault is) ∙ found)
 
-  -- a pair that passed is refused by 10 where a workspace is short
-  pub call-decides : {n g h : ℕ} → r ≡ Good n g h → (b : Bool) → b ≡ (ltb w places || ltb c places)
-      → cond b (some (ofPair 10)) none ≡ pairFault (read s) (read t) (workspaceRows w c)
-  unfolding first
-  call-decides is b short = rw (rest-decides (workspaceRows w c) (read s) (read t) (sym (ap foundFault is) ∙ found), short)
+  -- for a pair that passed they decide
+  pub call-rest : {n g h : ℕ} → r ≡ Good n g h → pairFault (read s) (read t) below ≡ first below
+  call-rest is = rest-decides below (read s) (read t) (sym (ap foundFault is) ∙ found)
+
+-- a pair that passed is refused by 10 where a workspace is short
+pub call-decides : (s t : List ℕ) (w c : ℕ) (r : PairCheck) → foundFault r ≡ pairFault (read s) (read t) [] → {n g h : ℕ} → r ≡ Good n g h →
+    (b : Bool) → b ≡ (ltb w places || ltb c places) → cond b (some (ofPair 10)) none ≡ pairFault (read s) (read t) (workspaceRows w c)
+unfolding first
+call-decides s t w c r found is b short = rw (call-rest s t (workspaceRows w c) r found is, short)

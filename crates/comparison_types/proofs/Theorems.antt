@@ -3,10 +3,11 @@
 use mathlib.Core.Path.{_≡_, refl, sym, ap, _∙_}
 use Prim.Native.Nat.{ℕ}
 use native.Mathlib.Omega.{arith}
-use mathlib.Core.Bool.{Bool, true, false, cond, true≢false}
+use mathlib.Core.Bool.{Bool, true, false, cond, not, true≢false}
 use mathlib.Core.Option.{Option, none, some, Option·map, map-eq-none-iff}
 use mathlib.Core.List.{List, _++_, map}
 use lib.Dec.{eqb}
+use borrow.Author.Tests.{eqb-true}
 use Rattle.record_format.specs.Gate.{Gate}
 use Rattle.record_format.specs.Row.{Fault, Row, told, first}
 use Rattle.record_format.specs.Reading.{Reading, qubits, gates, recordRows, accepted, refused, unless, read}
@@ -15,15 +16,15 @@ use Rattle.record_format.proofs.Rows.{none-holds, first-holds, first-none, firs
 use Rattle.record_format.proofs.Theorems.{accepted-by-no-row, refusalOf, refusal-back}
 use Rattle.comparison_meaning.specs.Verdict.{Result, compare}
 use Rattle.comparison_types.specs.Call.{PairFault, inFirst, inSecond, ofPair, faultOf, says, refuses, pairRows, workspaceRows, pairFault, compareRead, unlessFault, comparison}
-use Rattle.comparison_types.specs.Promises.{callRows, PairRefusedByFirstRow, PairAcceptedByNoRow, FirstListsFault, SecondListsFault, PairFaultTells}
+use Rattle.comparison_types.specs.Promises.{pairTable, callRows, PairRefusedByFirstRow, PairAcceptedByNoRow, FirstListsFault, SecondListsFault, PairFaultTells}
 use Rattle.comparison_types.specs.declared.Refusal.{Refusal}
-use Rattle.comparison_types.specs.declared.Refusal.the-variants.{First, Second, QubitsDiffer, TooManyVariables, WorkspaceShort}
+use Rattle.comparison_types.specs.declared.Refusal.the-variants.{First, Second, QubitsDiffer, TooManyVariables, BlockTooLarge, WorkspaceShort}
 
 -- a record's rows, told otherwise, give no fault only where the record has none
 untold : (g : Fault → PairFault) (rows : List (Row Fault)) → first (map (told g) rows) ≡ none → first rows ≡ none
 untold g rows e = map-eq-none-iff g (first rows) .0 (sym (first-told g rows) ∙ e)
 
-module _ (s t : List ℕ) (w c : ℕ) where
+module _ (s t : List ℕ) (below : List (Row PairFault)) where
   -- the rows of the first list
   abbrev ofFirst : List (Row PairFault)
   ofFirst = map (told inFirst) (recordRows s)
@@ -32,43 +33,54 @@ module _ (s t : List ℕ) (w c : ℕ) where
   abbrev ofSecond : List (Row PairFault)
   ofSecond = map (told inSecond) (recordRows t)
 
-  -- and those below them
-  abbrev lower : List (Row PairFault)
-  lower = pairRows (qubits s) (qubits t) (gates s) (gates t) ++ workspaceRows w c
-
-  -- the result for the gates of both lists
-  abbrev result : Result
-  result = compare 0 (qubits s) (gates s) (gates t)
+  -- and those under them
+  abbrev under : List (Row PairFault)
+  under = pairRows (qubits s) (qubits t) (gates s) (gates t) ++ below
 
   -- what the checks find is the first row of the whole table that holds
-  table-is : pairFault (read s) (read t) (workspaceRows w c) ≡ first (callRows s t w c)
+  pub table-is : pairFault (read s) (read t) below ≡ first (pairTable s t below)
   unfolding read pairFault
   table-is = go (first (recordRows s)) (first (recordRows t)) (first-told inFirst (recordRows s)) (first-told inSecond (recordRows t))
     where
       go : (o p : Option Fault) → first ofFirst ≡ Option·map inFirst o → first ofSecond ≡ Option·map inSecond p
-          → pairFault (unless o (accepted (qubits s) (gates s))) (unless p (accepted (qubits t) (gates t))) (workspaceRows w c)
-          ≡ first (callRows s t w c)
-      go (some f) p e d = sym (first-some (ofFirst ++ ofSecond) lower (inFirst f) (first-some ofFirst ofSecond (inFirst f) e))
-      go none (some f) e d = sym (first-some (ofFirst ++ ofSecond) lower (inSecond f) (first-none ofFirst ofSecond e ∙ d))
-      go none none e d = sym (first-none (ofFirst ++ ofSecond) lower (first-none ofFirst ofSecond e ∙ d))
+          → pairFault (unless o (accepted (qubits s) (gates s))) (unless p (accepted (qubits t) (gates t))) below
+          ≡ first (pairTable s t below)
+      go (some f) p e d = sym (first-some (ofFirst ++ ofSecond) under (inFirst f) (first-some ofFirst ofSecond (inFirst f) e))
+      go none (some f) e d = sym (first-some (ofFirst ++ ofSecond) under (inSecond f) (first-none ofFirst ofSecond e ∙ d))
+      go none none e d = sym (first-none (ofFirst ++ ofSecond) under (first-none ofFirst ofSecond e ∙ d))
+
+  -- where no row holds, both lists are accepted, on the same qubits
+  module _ (e : first (pairTable s t below) ≡ none) where
+    lists : first (ofFirst ++ ofSecond) ≡ none
+    lists = none-left (ofFirst ++ ofSecond) under e
+
+    pub first-accepted : read s ≡ accepted (qubits s) (gates s)
+    first-accepted = accepted-by-no-row s .1 (none-holds (recordRows s) .0 (untold inFirst (recordRows s) (none-left ofFirst ofSecond lists)))
+
+    pub second-accepted : read t ≡ accepted (qubits t) (gates t)
+    second-accepted = accepted-by-no-row t .1 (none-holds (recordRows t) .0 (untold inSecond (recordRows t) (none-right ofFirst ofSecond lists)))
+
+    pub same-qubits : qubits s ≡ qubits t
+    same-qubits = eqb-true (qubits s) (qubits t) (go _ (none-holds under .0 (none-right (ofFirst ++ ofSecond) under e) .0))
+      where
+        go : (b : Bool) → not b ≡ false → b ≡ true
+        go true h = refl
+        go false h = absurd (true≢false h)
+
+module _ (s t : List ℕ) (w c : ℕ) where
+  -- the result for the gates of both lists
+  abbrev result : Result
+  result = compare 0 (qubits s) (gates s) (gates t)
 
   -- where a row holds, its fault is said
   said-some : (f : PairFault) → first (callRows s t w c) ≡ some f → comparison s t w c ≡ refuses f
-  said-some f e = rw (table-is, e)
+  said-some f e = rw (table-is s t (workspaceRows w c), e)
 
   -- where none does, the result is
   said-none : first (callRows s t w c) ≡ none → comparison s t w c ≡ says result
   unfolding compareRead
   said-none e =
-      let lists = none-left (ofFirst ++ ofSecond) lower e in
-      let good = untold inFirst (recordRows s) (none-left ofFirst ofSecond lists) in
-      let good′ = untold inSecond (recordRows t) (none-right ofFirst ofSecond lists) in
-      rw (
-        table-is,
-        e,
-        accepted-by-no-row s .1 (none-holds (recordRows s) .0 good),
-        accepted-by-no-row t .1 (none-holds (recordRows t) .0 good′),
-      )
+      rw (table-is s t (workspaceRows w c), e, first-accepted s t (workspaceRows w c) e, second-accepted s t (workspaceRows w c) e)
 
 -- a pair is refused by the first row that holds for it
 pub pair-refused-by-first-row : PairRefusedByFirstRow
@@ -154,7 +166,7 @@ second-lists-fault s t w c f = (
 refusing : PairFault → Refusal
 refusing (inFirst f) = First (refusalOf f)
 refusing (inSecond f) = Second (refusalOf f)
-refusing (ofPair k) = cond (eqb k 8) QubitsDiffer (cond (eqb k 9) TooManyVariables WorkspaceShort)
+refusing (ofPair k) = cond (eqb k 8) QubitsDiffer (cond (eqb k 9) TooManyVariables (cond (eqb k 14) BlockTooLarge WorkspaceShort))
 
 -- what a refusal says gives it back
 refusing-back : (r : Refusal) → refusing (faultOf r) ≡ r
@@ -163,6 +175,7 @@ refusing-back (First r) = ap First (refusal-back r)
 refusing-back (Second r) = ap Second (refusal-back r)
 refusing-back QubitsDiffer = refl
 refusing-back TooManyVariables = refl
+refusing-back BlockTooLarge = refl
 refusing-back WorkspaceShort = refl
 
 -- refusals that say the same are the same

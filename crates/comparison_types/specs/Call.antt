@@ -19,7 +19,7 @@ use Rattle.comparison_types.specs.declared.Verdict.{Verdict}
 use Rattle.comparison_types.specs.declared.Verdict.the-variants.{Equal, Different, Undecided}
 use Rattle.comparison_types.specs.declared.Outcome.{Outcome}
 use Rattle.comparison_types.specs.declared.Refusal.{Refusal}
-use Rattle.comparison_types.specs.declared.Refusal.the-variants.{QubitsDiffer, TooManyVariables, WorkspaceShort}
+use Rattle.comparison_types.specs.declared.Refusal.the-variants.{QubitsDiffer, TooManyVariables, BlockTooLarge, WorkspaceShort}
 use Rattle.comparison_types.specs.declared.Answer.{Answer}
 use Rattle.comparison_types.specs.declared.Answer.the-variants.{Compared, Refused}
 
@@ -40,6 +40,7 @@ faultOf (Refusal.First r) = inFirst (list.faultOf r)
 faultOf (Refusal.Second r) = inSecond (list.faultOf r)
 faultOf QubitsDiffer = ofPair 8
 faultOf TooManyVariables = ofPair 9
+faultOf BlockTooLarge = ofPair 14
 faultOf WorkspaceShort = ofPair 10
 
 -- its number

@@ -17,15 +17,18 @@ use Rattle.comparison_meaning.specs.Verdict.{Result, compare}
 use Rattle.comparison_types.specs.Call.{PairFault, inFirst, inSecond, faultOf, pairRow, says, refuses, comparison}
 use Rattle.comparison_types.specs.declared.Refusal.{Refusal}
 
--- the whole table, for the bytes s and t and workspaces of w and c places: the checks on the first list, those on the second, then 8, 9, 10
-abbrev pub callRows : List ℕ → List ℕ → ℕ → ℕ → List (Row PairFault)
-callRows s t w c =
+-- the table for two records: the checks on the first list, those on the second, then 8, 9, and the rows that a call has below them
+abbrev pub pairTable : List ℕ → List ℕ → List (Row PairFault) → List (Row PairFault)
+pairTable s t below =
     map (told inFirst) (recordRows s)
     ++ map (told inSecond) (recordRows t)
     ++ pairRow 8 (not (eqb (qubits s) (qubits t)))
     ∷ pairRow 9 (ltb mostVariables (qubits s + (hGates (gates s) + hGates (gates t))))
-    ∷ pairRow 10 (ltb w places || ltb c places)
-    ∷ []
+    ∷ below
+
+-- the whole table for the bytes s and t and workspaces of w and c places
+abbrev pub callRows : List ℕ → List ℕ → ℕ → ℕ → List (Row PairFault)
+callRows s t w c = pairTable s t (pairRow 10 (ltb w places || ltb c places) ∷ [])
 
 -- a pair is refused by the fault of the first row of the table that holds for it
 abbrev pub PairRefusedByFirstRow : Type 0

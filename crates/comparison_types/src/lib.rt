@@ -39,7 +39,9 @@ pub enum Refusal {
     QubitsDiffer,
     // 9: n and the H gates of both are above 64
     TooManyVariables,
-    // 10: a workspace has under 3,136 places
+    // 14: of a block for the dense comparison, n is above 6 or both lists have more than 60 H gates
+    BlockTooLarge,
+    // 10: a workspace has under 3,136 places, or the buffer of the dense comparison under 512
     WorkspaceShort,
 }
 
@@ -58,6 +60,7 @@ pub fn number(r: Refusal) -> u8
         Refusal::Second(refusal) => record_bytes::number(refusal),
         Refusal::QubitsDiffer => 8,
         Refusal::TooManyVariables => 9,
+        Refusal::BlockTooLarge => 14,
         Refusal::WorkspaceShort => 10,
     }
 }

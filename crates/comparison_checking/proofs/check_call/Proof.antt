@@ -44,7 +44,7 @@ returns-2 c =
     let at-check-pair = c .before .before .before in
     let start = at-check-pair .before .before .before in
     let args = start .args in (
-      call-refused (args .first .now) (args .second .now) (args .words) (args .bytes) _ (at-check-pair .check-pair .ensures .0)
+      call-refused (args .first .now) (args .second .now) (workspaceRows (args .words) (args .bytes)) _ (at-check-pair .check-pair .ensures .0)
           (c .before .refusal .given .1),
       tt,
     )

@@ -1,0 +1,2 @@
+-- Worked cases of the definitions, by computation.
+-- Assumes nothing.
