@@ -1,2 +1,64 @@
 -- Worked cases of the definitions, by computation.
 -- Assumes nothing.
+use mathlib.Core.Path.{_≡_, refl}
+use Prim.Native.Nat.{ℕ, zero, suc}
+use mathlib.Core.List.{List, [], _∷_, _++_}
+use mathlib.Core.Option.{Option, none, some}
+use lib.IntN.{pos, negsuc}
+use lib.ListN.{replicate}
+use Rattle.record_format.specs.Gate.{gateOf}
+use Rattle.record_format.specs.Row.{first}
+use Rattle.record_format.specs.Reading.{raws, recordRows, allGateRows, read}
+use Rattle.amplitude.specs.Circuit.{tally}
+use Rattle.comparison_meaning.specs.Verdict.{equal, different}
+use Rattle.comparison_types.specs.Call.{PairFault, ofPair, pairFault}
+use Rattle.dense_types.specs.Call.{Found, found, says, refuses, blockRows, leftBy}
+
+-- the bytes of so many H gates
+hadamards : ℕ → List ℕ
+hadamards zero = []
+hadamards (suc k) = 7 ∷ 0 ∷ 255 ∷ hadamards k
+
+-- a record on n qubits of k H gates
+abbrev recordOf : ℕ → ℕ → List ℕ
+recordOf n k = 81 ∷ 67 ∷ n ∷ k ∷ 0 ∷ hadamards k
+
+-- the fault of a pair of such records, if any, in a buffer of m numbers
+fault : ℕ → ℕ → ℕ → ℕ → Option PairFault
+unfolding hadamards read raws recordRows allGateRows gateOf first pairFault tally
+fault n h k m = pairFault (read (recordOf n h)) (read (recordOf n k)) (blockRows (recordOf n h) (recordOf n k) m)
+
+-- 6 qubits pass, 7 get 14
+six-qubits : (fault 6 0 0 512 ≡ none) × (fault 7 0 0 512 ≡ some (ofPair 14))
+unfolding fault
+six-qubits = (refl, refl)
+
+-- 60 H gates pass, in one list or in both, and 61 get 14
+sixty-h-gates : (fault 4 60 0 512 ≡ none) × (fault 4 0 60 512 ≡ none) × (fault 3 31 30 512 ≡ some (ofPair 14)) × (fault 3 0 61 512 ≡ some (ofPair 14))
+unfolding fault
+sixty-h-gates = (refl, refl, refl, refl)
+
+-- 9 stands before 14, and 14 before 10
+in-order : (fault 5 60 0 512 ≡ some (ofPair 9)) × (fault 7 57 0 0 ≡ some (ofPair 14)) × (fault 7 58 0 0 ≡ some (ofPair 9))
+unfolding fault
+in-order = (refl, refl, refl)
+
+-- 512 numbers pass, 511 get 10
+buffer-limit : (fault 1 0 0 511 ≡ some (ofPair 10)) × (fault 1 0 0 512 ≡ none)
+unfolding fault
+buffer-limit = (refl, refl)
+
+-- what is found: equal with 0 and 0, or different with 0 and the input
+found-none : found none ≡ record { verdict = equal; first = 0; second = 0 }
+found-none = refl
+
+found-some : found (some 5) ≡ record { verdict = different; first = 0; second = 5 }
+found-some = refl
+
+-- a refused call leaves the buffer as it was
+refused-leaves : leftBy (refuses (ofPair 14)) (pos 1 ∷ negsuc 2 ∷ []) ≡ pos 1 ∷ negsuc 2 ∷ []
+refused-leaves = refl
+
+-- an accepted one leaves 512 zeros, and what stood behind
+accepted-leaves : leftBy (says (found none)) (replicate 513 (pos 7)) ≡ replicate 512 (pos 0) ++ pos 7 ∷ []
+accepted-leaves = refl
