@@ -1,6 +1,4 @@
--- Laws of gates on a column. In order: the table of matrices, the diagonal matrices, gates local to the places of a key, one turn of each
--- gate's pass.
+-- Laws of one-qubit gates on a column. In order: the table of matrices, the diagonal matrices, the pass of any other.
 pub mod Table
 pub mod Matrices
-pub mod Local
 pub mod Turns

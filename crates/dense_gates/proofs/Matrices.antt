@@ -13,7 +13,8 @@ use Rattle.amplitude.specs.Circuit.{State, apply}
 use Rattle.amplitude.proofs.NumberLaws.{+ω-idl, +ω-idr}
 use Rattle.amplitude.proofs.Linear.{ω^-zero}
 use Rattle.dense_columns.proofs.Pairs.{put-own}
-use Rattle.dense_gates.specs.Gates.{entryOf, rowTimes, turnedWhere}
+use Rattle.dense_turning.specs.Turns.{turnedWhere}
+use Rattle.dense_gates.specs.Gates.{entryOf, rowTimes}
 
 -- a number below 8 stands for a power of ω
 pub power-entry : (e : ℕ) → (e ≡ 8 → ⊥) → entryOf e ≡ ω e

@@ -1,16 +1,14 @@
--- Gates on a column: the table's entries and a matrix on a pair of places, as the passes go by them.
+-- One-qubit gates on a column: the table's entries and a matrix on a pair of places, as the passes go by them.
 -- Assumes nothing.
 use Prim.Native.Nat.{ℕ}
-use mathlib.Core.Bool.{Bool, true, false, cond, _&&_}
+use mathlib.Core.Bool.{Bool, true, false, cond}
 use mathlib.Core.List.{List}
 use lib.Dec.{eqb}
 use lib.ListN.{getD}
 use lib.IntN.{ℤ}
 use Rattle.record_format.specs.Gate.{OneQubit, H, oneQubitKinds}
-use Rattle.amplitude.specs.Number.{Zω, _+ω_, ω^}
-use Rattle.amplitude.specs.Bits.{bit}
+use Rattle.amplitude.specs.Number.{Zω, _+ω_}
 use Rattle.amplitude.specs.Matrix.{Entry, O, ω, matrix, entry, times}
-use Rattle.amplitude.specs.Circuit.{State}
 use Rattle.dense_columns.specs.Columns.{amplitudeAt, stored}
 
 -- the entry that a number of the table stands for: a power of ω, or 8 for 0
@@ -30,7 +28,3 @@ unfoldable pub pairTimes : OneQubit → ℕ → ℕ → List ℤ → List ℤ
 pairTimes u low high xs =
     stored (stored xs low (rowTimes u false (amplitudeAt xs low) (amplitudeAt xs high))) high
     (rowTimes u true (amplitudeAt xs low) (amplitudeAt xs high))
-
--- a state with the amplitudes times ω^k where bits a and b are both 1
-unfoldable pub turnedWhere : ℕ → ℕ → ℕ → State → State
-turnedWhere a b k ψ w = cond (bit a w && bit b w) (ω^ k (ψ w)) (ψ w)

@@ -1,2 +1,2 @@
--- Gates on a column.
+-- One-qubit gates on a column.
 pub mod Gates

@@ -1,26 +1,24 @@
-// The dense layer, gates: each gate on a column of n qubits, in place, in one pass over its places.
+// The dense layer, one-qubit gates: each on a column of n qubits, in place, in one pass over its places.
 ghost use mathlib.Core.Path.{_≡_};
-ghost use mathlib.Core.Logic.{_≢_};
 ghost use Prim.Native.Nat.{ℕ, _+_, _*_, _^_, _<_, _≤_};
 ghost use mathlib.Core.Bool.{false};
 ghost use lib.Dec.{eqb};
 ghost use lib.ListN.{length};
-ghost use Rattle.record_format.specs.Gate.{one, two, CX, CZ, SWAP};
+ghost use Rattle.record_format.specs.Gate.{one};
 ghost use Rattle.amplitude.specs.Bits.{put};
 ghost use Rattle.amplitude.specs.Matrix.{matrix, entry, times};
 ghost use Rattle.amplitude.specs.Circuit.{apply};
 ghost use Rattle.dense_numbers.specs.Numbers.{number, Sized, mostDoublings};
-ghost use Rattle.dense_columns.specs.Columns.{amplitudeAt, Holds, AllSized, Turned, itself, mostQubits};
-ghost use Rattle.dense_gates.specs.Gates.{entryOf, gateOfKind, rowTimes, pairTimes, turnedWhere};
-use dense_columns::exchange;
+ghost use Rattle.dense_columns.specs.Columns.{amplitudeAt, Holds, AllSized, Turned, mostQubits};
+ghost use Rattle.dense_gates.specs.Gates.{entryOf, gateOfKind, rowTimes, pairTimes};
 use dense_columns::has_bit;
 use dense_columns::load;
 use dense_columns::power;
 use dense_columns::store;
-use dense_columns::turn;
 use dense_numbers::Amplitude;
 use dense_numbers::plus;
 use dense_numbers::times_power;
+use dense_turning::turn_where;
 
 // An entry 0 of the table.
 const ZERO: u8 = 8;
@@ -115,33 +113,6 @@ fn apply_matrix(column: &mut [i64], n: usize, kind: usize, q: usize)
     }
 }
 
-// ω^k at place w, if bits a and b are both 1.
-fn turn_at(column: &mut [i64], n: usize, a: usize, b: usize, k: u8, w: usize)
-    requires { ⌜ (a < n) × (b < n) × (n ≤ mostQubits) × (k < 8) × (w < 2 ^ n) × (4 * 2 ^ n ≤ length (now column)) × Sized mostDoublings (amplitudeAt (now column) w) ⌝ }
-    ensures { λ _. ⌜ Turned n itself (turnedWhere a b k) w (now (column .entry)) (now (column .exit)) ⌝ }
-{
-    if has_bit(w, a) {
-        if has_bit(w, b) {
-            turn(column, w, k);
-            return;
-        }
-        return;
-    }
-}
-
-// ω^k where bits a and b are both 1: place by place.
-fn turn_where(column: &mut [i64], n: usize, a: usize, b: usize, k: u8)
-    requires { ⌜ (a < n) × (b < n) × (n ≤ mostQubits) × (k < 8) × (4 * 2 ^ n ≤ length (now column)) × AllSized n mostDoublings (amplitudeAt (now column)) ⌝ }
-    ensures { λ _. ⌜ Holds n (turnedWhere a b k (amplitudeAt (now (column .entry)))) (now (column .exit)) ⌝ }
-{
-    let end = power(n);
-    let mut w = 0;
-    while w < end {
-        turn_at(column, n, a, b, k, w);
-        w += 1;
-    }
-}
-
 // A one-qubit gate on a column. A diagonal matrix only turns the amplitudes where its qubit is 1.
 pub fn apply_one(column: &mut [i64], n: usize, kind: usize, q: usize)
     requires { ⌜ (kind < 8) × (q < n) × (n ≤ mostQubits) × (4 * 2 ^ n ≤ length (now column)) × AllSized n mostDoublings (amplitudeAt (now column)) ⌝ }
@@ -152,66 +123,4 @@ pub fn apply_one(column: &mut [i64], n: usize, kind: usize, q: usize)
         return;
     }
     apply_matrix(column, n, kind, q);
-}
-
-// CZ on a column.
-pub fn apply_cz(column: &mut [i64], n: usize, a: usize, b: usize)
-    requires { ⌜ (a < n) × (b < n) × (n ≤ mostQubits) × (4 * 2 ^ n ≤ length (now column)) × AllSized n mostDoublings (amplitudeAt (now column)) ⌝ }
-    ensures { λ _. ⌜ Holds n (apply (two CZ a b) (amplitudeAt (now (column .entry)))) (now (column .exit)) ⌝ }
-{
-    turn_where(column, n, a, b, 4);
-}
-
-// CX at place w, if w is the lower place of a pair along its target.
-fn apply_cx_at(column: &mut [i64], n: usize, a: usize, b: usize, w: usize)
-    requires { ⌜ (a < n) × (b < n) × (a ≢ b) × (n ≤ mostQubits) × (w < 2 ^ n) × (4 * 2 ^ n ≤ length (now column)) ⌝ }
-    ensures { λ _. ⌜ Turned n (put b false) (apply (two CX a b)) w (now (column .entry)) (now (column .exit)) ⌝ }
-{
-    if has_bit(w, b) {
-        return;
-    }
-    if has_bit(w, a) {
-        exchange(column, w, w + power(b));
-        return;
-    }
-}
-
-// CX on a column: pair by pair along its target.
-pub fn apply_cx(column: &mut [i64], n: usize, a: usize, b: usize)
-    requires { ⌜ (a < n) × (b < n) × (a ≢ b) × (n ≤ mostQubits) × (4 * 2 ^ n ≤ length (now column)) ⌝ }
-    ensures { λ _. ⌜ Holds n (apply (two CX a b) (amplitudeAt (now (column .entry)))) (now (column .exit)) ⌝ }
-{
-    let end = power(n);
-    let mut w = 0;
-    while w < end {
-        apply_cx_at(column, n, a, b, w);
-        w += 1;
-    }
-}
-
-// SWAP at place w, if both its bits are 0 there: the two places that have one of them are exchanged.
-fn apply_swap_at(column: &mut [i64], n: usize, a: usize, b: usize, w: usize)
-    requires { ⌜ (a < n) × (b < n) × (a ≢ b) × (n ≤ mostQubits) × (w < 2 ^ n) × (4 * 2 ^ n ≤ length (now column)) ⌝ }
-    ensures { λ _. ⌜ Turned n (λ u. put a false (put b false u)) (apply (two SWAP a b)) w (now (column .entry)) (now (column .exit)) ⌝ }
-{
-    if has_bit(w, a) {
-        return;
-    }
-    if has_bit(w, b) {
-        return;
-    }
-    exchange(column, w + power(a), w + power(b));
-}
-
-// SWAP on a column: four places at a time.
-pub fn apply_swap(column: &mut [i64], n: usize, a: usize, b: usize)
-    requires { ⌜ (a < n) × (b < n) × (a ≢ b) × (n ≤ mostQubits) × (4 * 2 ^ n ≤ length (now column)) ⌝ }
-    ensures { λ _. ⌜ Holds n (apply (two SWAP a b) (amplitudeAt (now (column .entry)))) (now (column .exit)) ⌝ }
-{
-    let end = power(n);
-    let mut w = 0;
-    while w < end {
-        apply_swap_at(column, n, a, b, w);
-        w += 1;
-    }
 }

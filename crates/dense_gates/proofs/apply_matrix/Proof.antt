@@ -14,7 +14,7 @@ use Rattle.dense_columns.specs.Columns.{amplitudeAt}
 use Rattle.dense_columns.proofs.Places.{few-places}
 use Rattle.dense_columns.proofs.Passes.{Passed, pass-start, pass-turn, pass-end}
 use Rattle.dense_gates.specs.Gates.{gateOfKind}
-use Rattle.dense_gates.proofs.Local.{one-local}
+use Rattle.dense_gates.proofs.Turns.{one-local}
 use Rattle.dense_gates.proofs.apply_matrix.Statement.{statement}
 use Rattle.dense_gates.proofs.apply_matrix.Tie as tie
 

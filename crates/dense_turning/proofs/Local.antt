@@ -2,21 +2,15 @@
 -- Assumes nothing.
 use mathlib.Core.Path.{_≡_, refl, _∙_, ap}
 use mathlib.Core.Logic.{_≢_}
-use mathlib.Core.Bool.{Bool, true, false, xor}
+use mathlib.Core.Bool.{Bool, false, xor}
 use Prim.Native.Nat.{ℕ, _^_, _<_}
-use Rattle.record_format.specs.Gate.{OneQubit, one, two, CX, SWAP}
+use Rattle.record_format.specs.Gate.{two, CX, SWAP}
 use Rattle.amplitude.specs.Bits.{bit, put}
 use Rattle.amplitude.specs.Circuit.{apply}
 use Rattle.amplitude.proofs.BitLaws.{put-put-same, put-put-other, put-below}
 use Rattle.dense_columns.specs.Columns.{itself}
 use Rattle.dense_columns.proofs.Passes.{Local}
-use Rattle.dense_gates.specs.Gates.{turnedWhere}
-
--- a one-qubit gate: pairs along its qubit
-pub one-local : (n q : ℕ) (u : OneQubit) → q < n → Local n (put q false) (apply (one u q))
-unfolding apply
-one-local n q u qn φ ψ w l same =
-    rw (same (put q false w) (put-below n q false w qn l) (put-put-same q false false w), same (put q true w) (put-below n q true w qn l) (put-put-same q false true w))
+use Rattle.dense_turning.specs.Turns.{turnedWhere}
 
 -- turns: each place
 pub turned-local : (n a b k : ℕ) → Local n itself (turnedWhere a b k)

@@ -1,22 +1,25 @@
--- `dense_gates::apply_swap` meets its contract: after w turns every four places whose lowest is below w are done, and no other.
+-- `dense_turning::apply_cx` meets its contract: after w turns every pair whose lower place is below w is done, and no other.
 -- Assumes nothing.
 use mathlib.Core.Path.{_≡_, refl, _∙_}
+use mathlib.Core.Bool.{false}
 use Prim.Native.Nat.{_^_, _-_, _≤_}
 use native.Mathlib.Omega.{arith}
 use borrow.Author.Needs.{needs}
 use lib.ListN.{length}
-use Rattle.record_format.specs.Gate.{two, SWAP}
+use Rattle.record_format.specs.Gate.{two, CX}
+use Rattle.amplitude.specs.Bits.{put}
 use Rattle.amplitude.specs.Circuit.{apply}
+use Rattle.amplitude.proofs.BitLaws.{put-below}
 use Rattle.dense_columns.specs.Columns.{amplitudeAt}
 use Rattle.dense_columns.proofs.Places.{few-places}
 use Rattle.dense_columns.proofs.Passes.{Passed, pass-start, pass-turn, pass-end}
-use Rattle.dense_gates.proofs.Local.{lowest, lowest-below, swap-local}
-use Rattle.dense_gates.proofs.apply_swap.Statement.{statement}
-use Rattle.dense_gates.proofs.apply_swap.Tie as tie
+use Rattle.dense_turning.proofs.Local.{cx-local}
+use Rattle.dense_turning.proofs.apply_cx.Statement.{statement}
+use Rattle.dense_turning.proofs.apply_cx.Tie as tie
 
 abbrev Inv-loop : tie.InvT-loop
 Inv-loop column₀ n a b end w₀ column w =
-    (w ≤ 2 ^ n) × (length column ≡ length column₀) × Passed n (lowest a b) (apply (two SWAP a b)) (amplitudeAt column₀) w column
+    (w ≤ 2 ^ n) × (length column ≡ length column₀) × Passed n (put b false) (apply (two CX a b)) (amplitudeAt column₀) w column
 
 abbrev μ-loop : tie.MeasureT-loop
 μ-loop column₀ n a b end w₀ column w = 2 ^ n - w
@@ -27,8 +30,8 @@ power-requires c κs = search needs
 loop-holds : tie.Need-loop-holds Inv-loop μ-loop
 loop-holds c = (omega arith, refl, pass-start _ _ _ _)
 
-apply-swap-at-requires : tie.Need-apply-swap-at-requires Inv-loop μ-loop
-apply-swap-at-requires c κs =
+apply-cx-at-requires : tie.Need-apply-cx-at-requires Inv-loop μ-loop
+apply-cx-at-requires c κs =
     let s = c .before .before .before .before in
     let l = c .before .before .loop in
     (s .pre .0, s .pre .1, s .pre .2, s .pre .3, omega (arith, c .before .before .before .power .ensures), omega (arith, l .inv .1))
@@ -49,9 +52,9 @@ loop-again c =
     let s = at-loop .before .before in
     let l = at-loop .loop in (
       omega (arith, at-loop .before .power .ensures),
-      turn .apply-swap-at .kept .0 ∙ l .inv .1,
-      pass-turn (s .args .n) (lowest (s .args .a) (s .args .b)) (apply (two SWAP (s .args .a) (s .args .b))) (amplitudeAt (s .args .column .now)) (l .w) (l .column) (turn .apply-swap-at .last .0)
-          (swap-local (s .args .n) (s .args .a) (s .args .b) (s .pre .0) (s .pre .1) (s .pre .2)) (l .inv .2) (turn .apply-swap-at .ensures),
+      turn .apply-cx-at .kept .0 ∙ l .inv .1,
+      pass-turn (s .args .n) (put (s .args .b) false) (apply (two CX (s .args .a) (s .args .b))) (amplitudeAt (s .args .column .now)) (l .w) (l .column) (turn .apply-cx-at .last .0)
+          (cx-local (s .args .n) (s .args .a) (s .args .b) (s .pre .1)) (l .inv .2) (turn .apply-cx-at .ensures),
     )
 
 same-length : tie.Need-same-length Inv-loop μ-loop
@@ -62,18 +65,18 @@ returns c =
     let s = c .before .before .before in
     let l = c .before .loop in
     let e : l .w ≡ 2 ^ s .args .n = omega (arith, c .before .before .power .ensures) in
-    pass-end (s .args .n) (lowest (s .args .a) (s .args .b)) (apply (two SWAP (s .args .a) (s .args .b))) (amplitudeAt (s .args .column .now)) (l .column)
-    (λ u b. lowest-below (s .args .n) (s .args .a) (s .args .b) u (s .pre .0) (s .pre .1) b) (rw e at (l .inv .2))
+    pass-end (s .args .n) (put (s .args .b) false) (apply (two CX (s .args .a) (s .args .b))) (amplitudeAt (s .args .column .now)) (l .column)
+    (λ u b. put-below (s .args .n) (s .args .b) false u (s .pre .1) b) (rw e at (l .inv .2))
 
-pub apply-swap-spec : {M : Type 1} → statement M
-apply-swap-spec =
+pub apply-cx-spec : {M : Type 1} → statement M
+apply-cx-spec =
     tie.close
     (tie.spec
     Inv-loop
     μ-loop
     power-requires
     loop-holds
-    apply-swap-at-requires
+    apply-cx-at-requires
     add-w
     loop-less
     loop-again

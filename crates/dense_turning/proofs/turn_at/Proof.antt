@@ -1,11 +1,11 @@
--- `dense_gates::turn_at` meets its contract: the place is turned where both bits are 1, and left elsewhere.
+-- `dense_turning::turn_at` meets its contract: the place is turned where both bits are 1, and left elsewhere.
 -- Assumes nothing.
 use mathlib.Core.Path.{sym, _∙_}
 use native.Mathlib.Omega.{arith}
 use borrow.Author.Needs.{needs}
-use Rattle.dense_gates.proofs.Turns.{both-turned, first-kept, second-kept}
-use Rattle.dense_gates.proofs.turn_at.Statement.{statement}
-use Rattle.dense_gates.proofs.turn_at.Tie as tie
+use Rattle.dense_turning.proofs.Turns.{both-turned, first-kept, second-kept}
+use Rattle.dense_turning.proofs.turn_at.Statement.{statement}
+use Rattle.dense_turning.proofs.turn_at.Tie as tie
 
 has-bit-requires : tie.Need-has-bit-requires
 has-bit-requires c κs = search needs

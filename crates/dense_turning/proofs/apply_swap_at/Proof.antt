@@ -1,4 +1,4 @@
--- `dense_gates::apply_swap_at` meets its contract: at a place with both bits 0 the two places that have one of them are exchanged, elsewhere
+-- `dense_turning::apply_swap_at` meets its contract: at a place with both bits 0 the two places that have one of them are exchanged, elsewhere
 -- nothing is done.
 -- Assumes nothing.
 use mathlib.Core.Path.{_≡_, sym, _∙_}
@@ -9,9 +9,9 @@ use Rattle.amplitude.specs.Bits.{bit}
 use Rattle.amplitude.proofs.BitLaws.{put-below}
 use Rattle.dense_columns.proofs.Places.{few-places}
 use Rattle.dense_columns.proofs.Pairs.{upper-is}
-use Rattle.dense_gates.proofs.Turns.{first-not-lowest, second-not-lowest, swap-turned}
-use Rattle.dense_gates.proofs.apply_swap_at.Statement.{statement}
-use Rattle.dense_gates.proofs.apply_swap_at.Tie as tie
+use Rattle.dense_turning.proofs.Turns.{first-not-lowest, second-not-lowest, swap-turned}
+use Rattle.dense_turning.proofs.apply_swap_at.Statement.{statement}
+use Rattle.dense_turning.proofs.apply_swap_at.Tie as tie
 
 has-bit-requires : tie.Need-has-bit-requires
 has-bit-requires c κs = search needs

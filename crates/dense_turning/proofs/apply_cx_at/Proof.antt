@@ -1,4 +1,4 @@
--- `dense_gates::apply_cx_at` meets its contract: at the lower place of a pair along the target the two are exchanged if the control is 1,
+-- `dense_turning::apply_cx_at` meets its contract: at the lower place of a pair along the target the two are exchanged if the control is 1,
 -- elsewhere nothing is done.
 -- Assumes nothing.
 use mathlib.Core.Path.{_≡_, sym, _∙_}
@@ -9,9 +9,9 @@ use Rattle.amplitude.specs.Bits.{bit}
 use Rattle.amplitude.proofs.BitLaws.{put-below}
 use Rattle.dense_columns.proofs.Places.{few-places}
 use Rattle.dense_columns.proofs.Pairs.{upper-is, none-turned}
-use Rattle.dense_gates.proofs.Turns.{cx-kept, cx-turned}
-use Rattle.dense_gates.proofs.apply_cx_at.Statement.{statement}
-use Rattle.dense_gates.proofs.apply_cx_at.Tie as tie
+use Rattle.dense_turning.proofs.Turns.{cx-kept, cx-turned}
+use Rattle.dense_turning.proofs.apply_cx_at.Statement.{statement}
+use Rattle.dense_turning.proofs.apply_cx_at.Tie as tie
 
 has-bit-requires : tie.Need-has-bit-requires
 has-bit-requires c κs = search needs

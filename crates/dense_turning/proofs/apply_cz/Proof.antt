@@ -1,10 +1,10 @@
--- `dense_gates::apply_cz` meets its contract: −1 is ω⁴.
+-- `dense_turning::apply_cz` meets its contract: −1 is ω⁴.
 -- Assumes nothing.
 use borrow.Author.Needs.{needs}
 use Rattle.amplitude.specs.Circuit.{apply}
-use Rattle.dense_gates.specs.Gates.{turnedWhere}
-use Rattle.dense_gates.proofs.apply_cz.Statement.{statement}
-use Rattle.dense_gates.proofs.apply_cz.Tie as tie
+use Rattle.dense_turning.specs.Turns.{turnedWhere}
+use Rattle.dense_turning.proofs.apply_cz.Statement.{statement}
+use Rattle.dense_turning.proofs.apply_cz.Tie as tie
 
 turn-where-requires : tie.Need-turn-where-requires
 turn-where-requires c κs = search needs

@@ -1,4 +1,4 @@
--- `dense_gates::turn_where` meets its contract: after w turns the places below w are done, and no other.
+-- `dense_turning::turn_where` meets its contract: after w turns the places below w are done, and no other.
 -- Assumes nothing.
 use mathlib.Core.Path.{_≡_, refl, _∙_}
 use Prim.Native.Nat.{_^_, _-_, _<_, _≤_}
@@ -8,10 +8,10 @@ use lib.ListN.{length}
 use Rattle.dense_columns.specs.Columns.{amplitudeAt, itself}
 use Rattle.dense_columns.proofs.Places.{few-places}
 use Rattle.dense_columns.proofs.Passes.{Passed, pass-start, pass-turn, pass-end}
-use Rattle.dense_gates.specs.Gates.{turnedWhere}
-use Rattle.dense_gates.proofs.Local.{turned-local}
-use Rattle.dense_gates.proofs.turn_where.Statement.{statement}
-use Rattle.dense_gates.proofs.turn_where.Tie as tie
+use Rattle.dense_turning.specs.Turns.{turnedWhere}
+use Rattle.dense_turning.proofs.Local.{turned-local}
+use Rattle.dense_turning.proofs.turn_where.Statement.{statement}
+use Rattle.dense_turning.proofs.turn_where.Tie as tie
 
 abbrev Inv-loop : tie.InvT-loop
 Inv-loop column₀ n a b k end w₀ column w =

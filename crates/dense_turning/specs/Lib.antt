@@ -1,0 +1,2 @@
+-- Turns of a column.
+pub mod Turns
