@@ -9,7 +9,7 @@ ghost use Rattle.comparison_types.specs.Clauses.{PickIsRight, EmptyIfRefused};
 use crate::comparing::compare_read;
 use comparison_types::Comparison;
 use comparison_types::Verdict;
-use phase_sum_terms::counting::t_gates;
+use gate_counting::t_gates;
 use record_format::GATE_SIZE;
 use record_format::HEAD_SIZE;
 use record_reading::gate_bytes;

@@ -10,7 +10,7 @@ ghost use Rattle.comparison_types.specs.Call.{workspaceRows, pairFault};
 ghost use Rattle.comparison_types.specs.Inner.{AcceptedWith, foundFault, PairRead};
 use comparison_types::PairCheck;
 use comparison_types::Refusal;
-use phase_sum_terms::counting::h_gates;
+use gate_counting::h_gates;
 use record_format::Checked;
 use record_reading::check;
 use record_reading::gate_bytes;

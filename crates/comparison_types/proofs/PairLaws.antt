@@ -11,7 +11,6 @@ use lib.ListN.{length, take, drop}
 use lib.Dec.{ltb}
 use borrow.Author.Tests.{lt-ltb, le-ltb, eq-eqb, ne-eqb}
 use Rattle.record_format.specs.Format.{headSize, gateSize}
-use Rattle.record_format.specs.Gate.{Gate}
 use Rattle.record_format.specs.Row.{Row, first}
 use Rattle.record_format.specs.Reading.{Reading, accepted, refused, read, size, gatesIn}
 use Rattle.record_format.specs.Answer as list
@@ -24,9 +23,9 @@ use Rattle.record_format.proofs.Theorems.{accepted-is-sound}
 use Rattle.record_format.proofs.Reading.{Accepts, accepts}
 use Rattle.record_format.proofs.Rows.{first-none, first-some}
 use Rattle.record_format.proofs.Parts.{gates-of-part}
-use Rattle.amplitude.specs.Circuit.{tally, hGates}
+use Rattle.amplitude.specs.Circuit.{hGates}
+use Rattle.gate_counting.proofs.Tallying.{h-gates-few}
 use Rattle.phase_sum_meaning.specs.Room.{mostVariables, places}
-use Rattle.phase_sum_types.proofs.Tallying.{one-h}
 use Rattle.comparison_types.specs.Call.{PairFault, inFirst, inSecond, ofPair, faultOf, pairRows, workspaceRows, pairFault}
 use Rattle.comparison_types.specs.Inner.{AcceptedWith, foundFault}
 use Rattle.comparison_types.specs.declared.Refusal.{Refusal}
@@ -88,12 +87,6 @@ pub second-refused :
     → some (faultOf (Refusal.Second r)) ≡ pairFault (read s) (read t) below
 unfolding pairFault
 second-refused s t below found r list answers is = rw (list .reads, refused-by t found r answers is)
-
--- a list has at most as many H gates as gates
-h-gates-few : (gs : List Gate) → hGates gs ≤ length gs
-unfolding tally
-h-gates-few [] = omega arith
-h-gates-few (g ∷ gs) = omega (arith, one-h g, h-gates-few gs)
 
 -- an accepted list has at most 16 qubits and 512 H gates
 pub small : {n g : ℕ} {s : List ℕ} (list : AcceptedWith n g s) → (n ≤ 16) × (hGates (list .gates) ≤ 512)

@@ -1,5 +1,3 @@
-// The phase-sum layer, terms: terms and wires in lent slices, read and put by their places, and gates counted by their bytes. Document 01,
-// "Building the sum".
-pub mod counting;
+// The phase-sum layer, terms: terms and wires in lent slices, read and put by their places. Document 01, "Building the sum".
 pub mod terms;
 pub mod wires;

@@ -1,5 +1,5 @@
 -- Laws behind the code of the phase-sum layer. In order: terms stored in places; merging in any order; words as sets; tables; loops over
--- places; passes over the terms; sorting; merging terms in order; wires; counting gates; running gates; accepted records.
+-- places; passes over the terms; sorting; merging terms in order; wires; running gates; accepted records.
 pub mod Storing
 pub mod Merging
 pub mod Words
@@ -9,7 +9,6 @@ pub mod Passes
 pub mod Sorting
 pub mod Compacting
 pub mod WireLaws
-pub mod Tallying
 pub mod Running
 pub mod Members
 pub mod Choosing

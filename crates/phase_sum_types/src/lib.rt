@@ -42,9 +42,3 @@ pub enum Found {
     Variable(u32),
     Nothing,
 }
-
-// What a tally counts: H gates, or T gates and their inverses.
-pub enum Weight {
-    H,
-    T,
-}

@@ -5,7 +5,7 @@ use mathlib.Core.Path.{_≡_, refl}
 use Prim.Native.Nat.{ℕ, zero, suc, _+_, _-_, _≤_, _<_}
 use native.Mathlib.Omega.{arith}
 use mathlib.Core.Bool.{Bool, _||_}
-use mathlib.Core.List.{List}
+use mathlib.Core.List.{List, [], _∷_}
 use lib.ListN.{length, getD, drop, length-drop}
 use lib.Dec.{eqb}
 use borrow.Author.Tests.{lt-leb, ne-eqb}
@@ -15,11 +15,11 @@ use Rattle.record_format.specs.Reading.{raws, gatesIn}
 use Rattle.record_format.proofs.Storing.{three-at}
 use Rattle.record_format.proofs.Parts.{no-gate}
 use Rattle.amplitude.specs.Bits.{digit}
-use Rattle.amplitude.specs.Circuit.{tally, isH, isT}
+use Rattle.amplitude.specs.Circuit.{tally, isH, isT, hGates}
 use Rattle.amplitude.proofs.BitLaws.{digit-below}
-use Rattle.phase_sum_types.specs.Inner.{weightOf}
-use Rattle.phase_sum_types.specs.declared.Weight.{Weight}
-use Rattle.phase_sum_types.specs.declared.Weight.the-variants as weight
+use Rattle.gate_counting.specs.Inner.{weightOf}
+use Rattle.gate_counting.specs.declared.Weight.{Weight}
+use Rattle.gate_counting.specs.declared.Weight.the-variants as weight
 
 -- a weight that the gates on one qubit have by their kinds' numbers, and those on two qubits by any number above 7
 module _
@@ -91,6 +91,12 @@ light weight.T (two v a b) = omega (arith, two-count v a b .1)
 -- so a gate is at most one H gate
 pub one-h : (g : Gate) → isH g ≤ 1
 one-h g = light weight.H g
+
+-- and a list has at most as many H gates as gates
+pub h-gates-few : (gs : List Gate) → hGates gs ≤ length gs
+unfolding tally
+h-gates-few [] = omega arith
+h-gates-few (g ∷ gs) = omega (arith, one-h g, h-gates-few gs)
 
 -- the gates in front of byte i are counted, and sum is their weight; as no gate weighs more than its three bytes, it is at most i
 pub record Counted (weight : Gate → ℕ) (gates : List ℕ) (sum i : ℕ) : Type 0 where

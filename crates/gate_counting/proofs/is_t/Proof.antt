@@ -1,9 +1,9 @@
--- `phase_sum_terms::counting::is_t` meets its contract: a gate counts as a T by its kind byte, which is that of T or of its inverse.
+-- `gate_counting::is_t` meets its contract: a gate counts as a T by its kind byte, which is that of T or of its inverse.
 -- Assumes nothing.
 use borrow.Author.Tests.{eq-eqb, ne-eqb}
-use Rattle.phase_sum_types.proofs.Tallying.{t-by-kind}
-use Rattle.phase_sum_terms.proofs.counting.is_t.Statement.{statement}
-use Rattle.phase_sum_terms.proofs.counting.is_t.Tie as tie
+use Rattle.gate_counting.proofs.Tallying.{t-by-kind}
+use Rattle.gate_counting.proofs.is_t.Statement.{statement}
+use Rattle.gate_counting.proofs.is_t.Tie as tie
 
 returns : tie.Need-returns
 returns c a b = simp (t-by-kind, eq-eqb _ _ (c .if1 .taken))

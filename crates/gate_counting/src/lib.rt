@@ -4,9 +4,14 @@ ghost use Prim.Native.Nat.{ℕ};
 ghost use Rattle.record_format.specs.Gate.{gateOf, raw};
 ghost use Rattle.record_format.specs.Reading.{gatesIn};
 ghost use Rattle.amplitude.specs.Circuit.{isH, isT, tally, hGates, tGates};
-ghost use Rattle.phase_sum_types.specs.Inner.{weightOf};
-use phase_sum_types::Weight;
+ghost use Rattle.gate_counting.specs.Inner.{weightOf};
 use record_format::gate;
+
+// What a tally counts: H gates, or T gates and their inverses.
+enum Weight {
+    H,
+    T,
+}
 
 // 1 for H, else 0.
 fn is_h(kind: u8) -> usize

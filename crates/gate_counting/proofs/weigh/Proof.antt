@@ -1,8 +1,8 @@
--- `phase_sum_terms::counting::weigh` meets its contract: each weight has its own test of the kind.
+-- `gate_counting::weigh` meets its contract: each weight has its own test of the kind.
 -- Assumes nothing.
 use borrow.Author.Needs.{needs}
-use Rattle.phase_sum_terms.proofs.counting.weigh.Statement.{statement}
-use Rattle.phase_sum_terms.proofs.counting.weigh.Tie as tie
+use Rattle.gate_counting.proofs.weigh.Statement.{statement}
+use Rattle.gate_counting.proofs.weigh.Tie as tie
 
 enum-told : tie.Need-enum-told
 enum-told c = search needs

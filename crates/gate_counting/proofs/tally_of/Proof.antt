@@ -1,13 +1,13 @@
--- `phase_sum_terms::counting::tally_of` meets its contract. The loop's invariant: the gates in front of byte i are counted.
+-- `gate_counting::tally_of` meets its contract. The loop's invariant: the gates in front of byte i are counted.
 -- The measure is how many bytes are left.
 -- Assumes nothing.
 use native.Mathlib.Omega.{arith}
 use Prim.Native.Nat.{_-_}
 use lib.ListN.{length}
-use Rattle.phase_sum_types.specs.Inner.{weightOf}
-use Rattle.phase_sum_types.proofs.Tallying.{light, Counted, counted-none, counted-more, counted-all}
-use Rattle.phase_sum_terms.proofs.counting.tally_of.Statement.{statement}
-use Rattle.phase_sum_terms.proofs.counting.tally_of.Tie as tie
+use Rattle.gate_counting.specs.Inner.{weightOf}
+use Rattle.gate_counting.proofs.Tallying.{light, Counted, counted-none, counted-more, counted-all}
+use Rattle.gate_counting.proofs.tally_of.Statement.{statement}
+use Rattle.gate_counting.proofs.tally_of.Tie as tie
 
 abbrev Inv-loop : tie.InvT-loop
 Inv-loop weight gates sum₀ i₀ sum i = Counted (weightOf weight) gates sum i

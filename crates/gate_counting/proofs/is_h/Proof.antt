@@ -1,9 +1,9 @@
--- `phase_sum_terms::counting::is_h` meets its contract: a gate counts as an H by its kind byte.
+-- `gate_counting::is_h` meets its contract: a gate counts as an H by its kind byte.
 -- Assumes nothing.
 use borrow.Author.Tests.{eq-eqb, ne-eqb}
-use Rattle.phase_sum_types.proofs.Tallying.{h-by-kind}
-use Rattle.phase_sum_terms.proofs.counting.is_h.Statement.{statement}
-use Rattle.phase_sum_terms.proofs.counting.is_h.Tie as tie
+use Rattle.gate_counting.proofs.Tallying.{h-by-kind}
+use Rattle.gate_counting.proofs.is_h.Statement.{statement}
+use Rattle.gate_counting.proofs.is_h.Tie as tie
 
 returns : tie.Need-returns
 returns c a b = simp (h-by-kind, eq-eqb _ _ (c .if1 .taken))

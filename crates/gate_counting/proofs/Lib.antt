@@ -1,0 +1,2 @@
+-- Laws behind counting gates.
+pub mod Tallying

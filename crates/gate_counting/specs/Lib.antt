@@ -1,0 +1,2 @@
+-- What private functions do, for their contracts.
+pub mod Inner
