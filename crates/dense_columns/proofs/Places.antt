@@ -10,10 +10,11 @@ use lib.Pow.{pow-mono}
 use lib.IntN.{ℤ, pos}
 use Rattle.amplitude.specs.Number.{Zω, whole, 0ω}
 use Rattle.amplitude.proofs.NumberLaws.{zω≡}
-use Rattle.dense_columns.specs.Columns.{amplitudeAt, stored, mostQubits}
+use Rattle.dense_meaning.specs.Limits.{blockQubits}
+use Rattle.dense_columns.specs.Columns.{amplitudeAt, stored}
 
 -- at most 64 places
-pub few-places : (k : ℕ) → k ≤ mostQubits → 2 ^ k ≤ 64
+pub few-places : (k : ℕ) → k ≤ blockQubits → 2 ^ k ≤ 64
 few-places k l = pow-mono l
 
 -- storing keeps the length

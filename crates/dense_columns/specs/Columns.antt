@@ -39,10 +39,3 @@ pub record Turned (n : ℕ) (key : ℕ → ℕ) (F : State → State) (w : ℕ) 
 -- each place is a key of its own
 abbrev pub itself : ℕ → ℕ
 itself u = u
-
--- the largest block has 6 qubits, and a column of it 64 amplitudes of four numbers
-abbrev pub mostQubits : ℕ
-mostQubits = 6
-
-abbrev pub columnSize : ℕ
-columnSize = 256

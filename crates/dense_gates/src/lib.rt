@@ -9,7 +9,8 @@ ghost use Rattle.amplitude.specs.Bits.{put};
 ghost use Rattle.amplitude.specs.Matrix.{matrix, entry, times};
 ghost use Rattle.amplitude.specs.Circuit.{apply};
 ghost use Rattle.dense_numbers.specs.Numbers.{number, Sized, mostDoublings};
-ghost use Rattle.dense_columns.specs.Columns.{amplitudeAt, Holds, AllSized, Turned, mostQubits};
+ghost use Rattle.dense_meaning.specs.Limits.{blockQubits};
+ghost use Rattle.dense_columns.specs.Columns.{amplitudeAt, Holds, AllSized, Turned};
 ghost use Rattle.dense_gates.specs.Gates.{entryOf, gateOfKind, rowTimes, pairTimes};
 use dense_columns::has_bit;
 use dense_columns::load;
@@ -91,7 +92,7 @@ fn apply_pair(column: &mut [i64], kind: usize, low: usize, high: usize)
 
 // A matrix along qubit q at place w, if w is the lower place of a pair.
 fn apply_matrix_at(column: &mut [i64], n: usize, kind: usize, q: usize, w: usize)
-    requires { ⌜ (kind < 8) × (q < n) × (n ≤ mostQubits) × (w < 2 ^ n) × (4 * 2 ^ n ≤ length (now column)) × ((u : ℕ) → u < 2 ^ n → put q false u ≡ w → Sized mostDoublings (amplitudeAt (now column) u)) ⌝ }
+    requires { ⌜ (kind < 8) × (q < n) × (n ≤ blockQubits) × (w < 2 ^ n) × (4 * 2 ^ n ≤ length (now column)) × ((u : ℕ) → u < 2 ^ n → put q false u ≡ w → Sized mostDoublings (amplitudeAt (now column) u)) ⌝ }
     ensures { λ _. ⌜ Turned n (put q false) (apply (one (gateOfKind kind) q)) w (now (column .entry)) (now (column .exit)) ⌝ }
 {
     if has_bit(w, q) {
@@ -102,7 +103,7 @@ fn apply_matrix_at(column: &mut [i64], n: usize, kind: usize, q: usize, w: usize
 
 // A matrix along qubit q on a column: pair by pair.
 fn apply_matrix(column: &mut [i64], n: usize, kind: usize, q: usize)
-    requires { ⌜ (kind < 8) × (q < n) × (n ≤ mostQubits) × (4 * 2 ^ n ≤ length (now column)) × AllSized n mostDoublings (amplitudeAt (now column)) ⌝ }
+    requires { ⌜ (kind < 8) × (q < n) × (n ≤ blockQubits) × (4 * 2 ^ n ≤ length (now column)) × AllSized n mostDoublings (amplitudeAt (now column)) ⌝ }
     ensures { λ _. ⌜ Holds n (apply (one (gateOfKind kind) q) (amplitudeAt (now (column .entry)))) (now (column .exit)) ⌝ }
 {
     let end = power(n);
@@ -115,7 +116,7 @@ fn apply_matrix(column: &mut [i64], n: usize, kind: usize, q: usize)
 
 // A one-qubit gate on a column. A diagonal matrix only turns the amplitudes where its qubit is 1.
 pub fn apply_one(column: &mut [i64], n: usize, kind: usize, q: usize)
-    requires { ⌜ (kind < 8) × (q < n) × (n ≤ mostQubits) × (4 * 2 ^ n ≤ length (now column)) × AllSized n mostDoublings (amplitudeAt (now column)) ⌝ }
+    requires { ⌜ (kind < 8) × (q < n) × (n ≤ blockQubits) × (4 * 2 ^ n ≤ length (now column)) × AllSized n mostDoublings (amplitudeAt (now column)) ⌝ }
     ensures { λ _. ⌜ Holds n (apply (one (gateOfKind kind) q) (amplitudeAt (now (column .entry)))) (now (column .exit)) ⌝ }
 {
     if matrix_entry(kind, 0, 1) == ZERO {

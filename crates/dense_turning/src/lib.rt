@@ -8,7 +8,8 @@ ghost use Rattle.record_format.specs.Gate.{two, CX, CZ, SWAP};
 ghost use Rattle.amplitude.specs.Bits.{put};
 ghost use Rattle.amplitude.specs.Circuit.{apply};
 ghost use Rattle.dense_numbers.specs.Numbers.{Sized, mostDoublings};
-ghost use Rattle.dense_columns.specs.Columns.{amplitudeAt, Holds, AllSized, Turned, itself, mostQubits};
+ghost use Rattle.dense_meaning.specs.Limits.{blockQubits};
+ghost use Rattle.dense_columns.specs.Columns.{amplitudeAt, Holds, AllSized, Turned, itself};
 ghost use Rattle.dense_turning.specs.Turns.{turnedWhere};
 use dense_columns::exchange;
 use dense_columns::has_bit;
@@ -17,7 +18,7 @@ use dense_columns::turn;
 
 // ω^k at place w, if bits a and b are both 1.
 fn turn_at(column: &mut [i64], n: usize, a: usize, b: usize, k: u8, w: usize)
-    requires { ⌜ (a < n) × (b < n) × (n ≤ mostQubits) × (k < 8) × (w < 2 ^ n) × (4 * 2 ^ n ≤ length (now column)) × Sized mostDoublings (amplitudeAt (now column) w) ⌝ }
+    requires { ⌜ (a < n) × (b < n) × (n ≤ blockQubits) × (k < 8) × (w < 2 ^ n) × (4 * 2 ^ n ≤ length (now column)) × Sized mostDoublings (amplitudeAt (now column) w) ⌝ }
     ensures { λ _. ⌜ Turned n itself (turnedWhere a b k) w (now (column .entry)) (now (column .exit)) ⌝ }
 {
     if has_bit(w, a) {
@@ -31,7 +32,7 @@ fn turn_at(column: &mut [i64], n: usize, a: usize, b: usize, k: u8, w: usize)
 
 // ω^k where bits a and b are both 1: place by place.
 pub fn turn_where(column: &mut [i64], n: usize, a: usize, b: usize, k: u8)
-    requires { ⌜ (a < n) × (b < n) × (n ≤ mostQubits) × (k < 8) × (4 * 2 ^ n ≤ length (now column)) × AllSized n mostDoublings (amplitudeAt (now column)) ⌝ }
+    requires { ⌜ (a < n) × (b < n) × (n ≤ blockQubits) × (k < 8) × (4 * 2 ^ n ≤ length (now column)) × AllSized n mostDoublings (amplitudeAt (now column)) ⌝ }
     ensures { λ _. ⌜ Holds n (turnedWhere a b k (amplitudeAt (now (column .entry)))) (now (column .exit)) ⌝ }
 {
     let end = power(n);
@@ -44,7 +45,7 @@ pub fn turn_where(column: &mut [i64], n: usize, a: usize, b: usize, k: u8)
 
 // CZ on a column.
 pub fn apply_cz(column: &mut [i64], n: usize, a: usize, b: usize)
-    requires { ⌜ (a < n) × (b < n) × (n ≤ mostQubits) × (4 * 2 ^ n ≤ length (now column)) × AllSized n mostDoublings (amplitudeAt (now column)) ⌝ }
+    requires { ⌜ (a < n) × (b < n) × (n ≤ blockQubits) × (4 * 2 ^ n ≤ length (now column)) × AllSized n mostDoublings (amplitudeAt (now column)) ⌝ }
     ensures { λ _. ⌜ Holds n (apply (two CZ a b) (amplitudeAt (now (column .entry)))) (now (column .exit)) ⌝ }
 {
     turn_where(column, n, a, b, 4);
@@ -52,7 +53,7 @@ pub fn apply_cz(column: &mut [i64], n: usize, a: usize, b: usize)
 
 // CX at place w, if w is the lower place of a pair along its target.
 fn apply_cx_at(column: &mut [i64], n: usize, a: usize, b: usize, w: usize)
-    requires { ⌜ (a < n) × (b < n) × (a ≢ b) × (n ≤ mostQubits) × (w < 2 ^ n) × (4 * 2 ^ n ≤ length (now column)) ⌝ }
+    requires { ⌜ (a < n) × (b < n) × (a ≢ b) × (n ≤ blockQubits) × (w < 2 ^ n) × (4 * 2 ^ n ≤ length (now column)) ⌝ }
     ensures { λ _. ⌜ Turned n (put b false) (apply (two CX a b)) w (now (column .entry)) (now (column .exit)) ⌝ }
 {
     if has_bit(w, b) {
@@ -66,7 +67,7 @@ fn apply_cx_at(column: &mut [i64], n: usize, a: usize, b: usize, w: usize)
 
 // CX on a column: pair by pair along its target.
 pub fn apply_cx(column: &mut [i64], n: usize, a: usize, b: usize)
-    requires { ⌜ (a < n) × (b < n) × (a ≢ b) × (n ≤ mostQubits) × (4 * 2 ^ n ≤ length (now column)) ⌝ }
+    requires { ⌜ (a < n) × (b < n) × (a ≢ b) × (n ≤ blockQubits) × (4 * 2 ^ n ≤ length (now column)) ⌝ }
     ensures { λ _. ⌜ Holds n (apply (two CX a b) (amplitudeAt (now (column .entry)))) (now (column .exit)) ⌝ }
 {
     let end = power(n);
@@ -79,7 +80,7 @@ pub fn apply_cx(column: &mut [i64], n: usize, a: usize, b: usize)
 
 // SWAP at place w, if both its bits are 0 there: the two places that have one of them are exchanged.
 fn apply_swap_at(column: &mut [i64], n: usize, a: usize, b: usize, w: usize)
-    requires { ⌜ (a < n) × (b < n) × (a ≢ b) × (n ≤ mostQubits) × (w < 2 ^ n) × (4 * 2 ^ n ≤ length (now column)) ⌝ }
+    requires { ⌜ (a < n) × (b < n) × (a ≢ b) × (n ≤ blockQubits) × (w < 2 ^ n) × (4 * 2 ^ n ≤ length (now column)) ⌝ }
     ensures { λ _. ⌜ Turned n (λ u. put a false (put b false u)) (apply (two SWAP a b)) w (now (column .entry)) (now (column .exit)) ⌝ }
 {
     if has_bit(w, a) {
@@ -93,7 +94,7 @@ fn apply_swap_at(column: &mut [i64], n: usize, a: usize, b: usize, w: usize)
 
 // SWAP on a column: four places at a time.
 pub fn apply_swap(column: &mut [i64], n: usize, a: usize, b: usize)
-    requires { ⌜ (a < n) × (b < n) × (a ≢ b) × (n ≤ mostQubits) × (4 * 2 ^ n ≤ length (now column)) ⌝ }
+    requires { ⌜ (a < n) × (b < n) × (a ≢ b) × (n ≤ blockQubits) × (4 * 2 ^ n ≤ length (now column)) ⌝ }
     ensures { λ _. ⌜ Holds n (apply (two SWAP a b) (amplitudeAt (now (column .entry)))) (now (column .exit)) ⌝ }
 {
     let end = power(n);
