@@ -3,15 +3,16 @@
 use mathlib.Core.Path.{_≡_, refl}
 use mathlib.Core.Logic.{_⊎_, inl, inr}
 use mathlib.Core.Bool.{Bool, true, false, cond, _&&_}
+use mathlib.Core.List.{List, [], _∷_}
 use Prim.Native.Nat.{ℕ, _+_}
-use native.Mathlib.Nat.{add-zero}
+use native.Mathlib.Nat.{add-zero, zero-add, add-assoc}
 use native.Mathlib.Numerals.{add-one}
 use lib.Dec.{eqb}
-use Rattle.record_format.specs.Gate.{OneQubit, X, Y, Z, S, S†, T, T†, H, Gate, one, two, CX, CZ, SWAP, Within}
+use Rattle.record_format.specs.Gate.{OneQubit, X, Y, Z, S, S†, T, T†, H, Gate, one, two, CX, CZ, SWAP, Within, AllWithin}
 use Rattle.amplitude.specs.Number.{Zω, 0ω, 1ω, _+ω_, ω^}
 use Rattle.amplitude.specs.Bits.{bit, put}
 use Rattle.amplitude.specs.Matrix.{O, matrix, entry, times}
-use Rattle.amplitude.specs.Circuit.{State, basis, apply, isH}
+use Rattle.amplitude.specs.Circuit.{State, basis, apply, run, column, tally, isH, hGates}
 use Rattle.amplitude.proofs.NumberLaws.{+ω-idl, +ω-idr}
 use Rattle.amplitude.proofs.BitLaws.{put-below}
 use Rattle.dense_numbers.specs.Numbers.{Sized}
@@ -80,3 +81,15 @@ basis-sized v w = go (eqb v w)
     go : (t : Bool) → Sized 0 (cond t 1ω 0ω)
     go true = sized-1ω
     go false = sized-0ω 0
+
+-- a list
+run-sized : (n : ℕ) (gs : List Gate) (k : ℕ) (ψ : State) → AllWithin n gs → AllSized n k ψ → AllSized n (k + hGates gs) (run gs ψ)
+unfolding run tally
+run-sized n [] k ψ l s = rw (add-zero k) s
+run-sized n (g ∷ gs) k ψ l s =
+    rw (← add-assoc k (isH g) (tally isH gs)) (run-sized n gs (k + isH g) (apply g ψ) (l .1) (apply-sized n g k ψ (l .0) s))
+
+-- a column of a list
+pub column-sized : (n v : ℕ) (gs : List Gate) → AllWithin n gs → AllSized n (hGates gs) (column gs v)
+unfolding column
+column-sized n v gs l w b = rw (zero-add (hGates gs)) at (run-sized n gs 0 (basis v) l (λ u m. basis-sized v u) w b)

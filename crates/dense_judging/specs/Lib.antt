@@ -1,0 +1,2 @@
+-- The columns of two lists compared in a lent buffer.
+pub mod Judging
