@@ -31,7 +31,7 @@ const POWERS: u8 = 8;
 // What comparing all columns finds: a power that fits them all, or the first input at which none is left.
 pub enum Judged {
     Equal,
-    Different(usize),
+    Different(u16),
 }
 
 // Does ω^j carry the first column to the second?
@@ -60,15 +60,7 @@ fn fits(buffer: &[i64], n: usize, j: u8) -> bool
 }
 
 // Column v of both lists, each times √2 as often as the other has H gates, in the halves.
-fn run_both(
-    buffer: &mut [i64],
-    n: usize,
-    first: &[u8],
-    second: &[u8],
-    v: usize,
-    h: usize,
-    k: usize,
-)
+fn run_both(buffer: &mut [i64], n: usize, first: &[u8], second: &[u8], v: usize, h: usize, k: usize)
     requires { ⌜ Block n (now first) (now second) h k × (v < 2 ^ n) × (length (now buffer) ≡ bufferSize) ⌝ }
     ensures { λ _. ⌜ Halved n (gatesIn (now (first .entry))) (gatesIn (now (second .entry))) v (now (buffer .exit)) ⌝ }
 {
@@ -114,7 +106,7 @@ fn judge_columns(
     while v < end {
         run_both(buffer, n, first, second, v, h, k);
         if !fits(buffer, n, j) {
-            return Judged::Different(v);
+            return Judged::Different(v as u16);
         }
         v += 1;
     }

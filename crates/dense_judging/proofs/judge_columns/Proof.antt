@@ -109,9 +109,18 @@ fits-requires c κs =
     let column = c .before .before in
     let turn = in-turn column in
     let zero = to-zero (to-power turn) in
-    let s = start zero in
-    (s .pre .0 .few, found (turn .before .before), column .run-both2 .kept .0 ∙ turn .loop .inv .2 ∙ zero .run-both .kept .0 ∙ s .pre .1,
-    left-small (s .args .n) _ _ _ _ (turn .loop .v) _ (s .pre .0) (column .run-both2 .ensures))
+    let s = start zero in (
+      s .pre .0 .few,
+      found (turn .before .before),
+      column .run-both2 .kept .0 ∙ turn .loop .inv .2 ∙ zero .run-both .kept .0 ∙ s .pre .1,
+      left-small (s .args .n) _ _ _ _ (turn .loop .v) _ (s .pre .0) (column .run-both2 .ensures),
+    )
+
+cast-t23 : tie.Need-cast-t23 Inv-loop μ-loop
+cast-t23 c =
+    let turn = in-turn (to-column (c .before)) in
+    let s = start (to-zero (to-power turn)) in
+    record { fits = omega (arith, few-places (s .args .n) (s .pre .0 .few), turn .before .power .ensures) }
 
 same-length-2 : tie.Need-same-length-2 Inv-loop μ-loop
 same-length-2 c =
@@ -144,9 +153,12 @@ loop-again c =
     let column = to-column (c .before) in
     let turn = in-turn column in
     let s = start (to-zero (to-power turn)) in
-    let fits = passed-fits (s .args .n) (gates s) (others s) (turn .loop .v) (column .run-both2 .last .0) (column .run-both2 .ensures) _ (sym (c .before .fits2 .ensures) ∙ not-false _ (c .if2 .left)) in
-    (omega arith, omega (arith, turn .before .power .ensures), column .run-both2 .kept .0 ∙ turn .loop .inv .2,
-    below-more _ _ (turn .loop .inv .3) fits)
+    let fits = passed-fits (s .args .n) (gates s) (others s) (turn .loop .v) (column .run-both2 .last .0) (column .run-both2 .ensures) _ (sym (c .before .fits2 .ensures) ∙ not-false _ (c .if2 .left)) in (
+      omega arith,
+      omega (arith, turn .before .power .ensures),
+      column .run-both2 .kept .0 ∙ turn .loop .inv .2,
+      below-more _ _ (turn .loop .inv .3) fits,
+    )
 
 same-length-3 : tie.Need-same-length-3 Inv-loop μ-loop
 same-length-3 c = c .before .loop .inv .2 ∙ to-zero (to-power (c .before)) .run-both .kept .0
@@ -172,6 +184,7 @@ judge-columns-spec =
     loop-holds
     run-both-requires-2
     fits-requires
+    cast-t23
     same-length-2
     returns-2
     add-v

@@ -27,9 +27,14 @@ slice-aggregate-run-column c = simp length-take (omega arith)
 run-column-requires : tie.Need-run-column-requires
 run-column-requires c κs =
     let s = c .before .before .before in
-    let b = s .pre .0 in
-    (b .threes-first, b .few, s .pre .1, simp length-take (omega (arith, few-places (s .args .n) (b .few))), b .within-first,
-    omega (arith, b .h-first, b .small))
+    let b = s .pre .0 in (
+      b .threes-first,
+      b .few,
+      s .pre .1,
+      simp length-take (omega (arith, few-places (s .args .n) (b .few))),
+      b .within-first,
+      omega (arith, b .h-first, b .small),
+    )
 
 sub-run-column : tie.Need-sub-run-column
 sub-run-column c = search needs
@@ -44,10 +49,14 @@ run-column-requires-2 : tie.Need-run-column-requires-2
 run-column-requires-2 c κs =
     let at-first = c .before .before in
     let s = start at-first in
-    let b = s .pre .0 in
-    (b .threes-second, b .few, s .pre .1,
-    omega (arith, few-places (s .args .n) (b .few), room-behind (s .args .buffer .now) (at-first .run-column .last .0) (first-long at-first) (s .pre .2)), b .within-second,
-    omega (arith, b .h-second, b .small))
+    let b = s .pre .0 in (
+      b .threes-second,
+      b .few,
+      s .pre .1,
+      omega (arith, few-places (s .args .n) (b .few), room-behind (s .args .buffer .now) (at-first .run-column .last .0) (first-long at-first) (s .pre .2)),
+      b .within-second,
+      omega (arith, b .h-second, b .small),
+    )
 
 same-length : tie.Need-same-length
 same-length c = search needs

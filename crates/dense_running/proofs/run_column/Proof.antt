@@ -14,9 +14,12 @@ start-requires c κs = search needs
 run-gates-requires : tie.Need-run-gates-requires
 run-gates-requires c κs =
     let started = c .before .before .start in
-    let s = c .before .before .before .before .before in
-    (s .pre .0, s .pre .1, omega (arith, started .kept .0),
-    start-ready (s .args .n) (s .args .v) (s .args .k) (gatesIn (now (s .args .gates))) (s .pre .4) (started .last .0) (started .ensures) (s .pre .5))
+    let s = c .before .before .before .before .before in (
+      s .pre .0,
+      s .pre .1,
+      omega (arith, started .kept .0),
+      start-ready (s .args .n) (s .args .v) (s .args .k) (gatesIn (now (s .args .gates))) (s .pre .4) (started .last .0) (started .ensures) (s .pre .5),
+    )
 
 same-length : tie.Need-same-length
 same-length c = search needs

@@ -58,10 +58,13 @@ loop-again : tie.Need-loop-again Inv-loop μ-loop
 loop-again c =
     let s = c .before .before .before .before .before .before .before .before .before in
     let l = c .before .before .before .before .before .before .before .loop in
-    let bytes = now (s .args .gates) in
-    (omega arith, omega arith, c .before .run-gate .kept .0 ∙ l .inv .2,
-    one-run (s .args .n) (run (gatesIn bytes) (amplitudeAt (s .args .column .now))) (gateAt bytes (l .i)) (gatesIn (drop (l .i + 3) bytes))
-    (l .column) (c .before .run-gate .last .0) (rw (gates-from bytes (l .i) (omega arith)) at (l .inv .3)) (c .before .run-gate .ensures))
+    let bytes = now (s .args .gates) in (
+      omega arith,
+      omega arith,
+      c .before .run-gate .kept .0 ∙ l .inv .2,
+      one-run (s .args .n) (run (gatesIn bytes) (amplitudeAt (s .args .column .now))) (gateAt bytes (l .i)) (gatesIn (drop (l .i + 3) bytes))
+          (l .column) (c .before .run-gate .last .0) (rw (gates-from bytes (l .i) (omega arith)) at (l .inv .3)) (c .before .run-gate .ensures),
+    )
 
 same-length : tie.Need-same-length Inv-loop μ-loop
 same-length c = c .before .loop .inv .2

@@ -1,0 +1,2 @@
+-- Laws behind `compare`.
+pub mod Calling

@@ -1,0 +1,70 @@
+// The dense comparison of two gate lists, as licensees call it: document 02, item 2. For blocks of at most six qubits with at most 60 H
+// gates it says equal or different and never undecided. It takes any bytes and any buffer, refuses by number what is bad, and then changes
+// nothing that it was lent. All that is public here is the call, its answer, or a limit.
+ghost use mathlib.Core.Path.{_≡_};
+ghost use lib.ListN.{length};
+ghost use Rattle.dense_types.specs.Call.{found, foundOf, saidOf, denseComparison, leftBy};
+ghost use Rattle.dense_types.specs.Clauses.{Exact, Sound, First, Inputs, Agrees};
+ghost use Rattle.dense_judging.specs.Judging.{unfitOf};
+use comparison_types::Verdict;
+pub use dense_checking::BLOCK_H_GATES;
+pub use dense_checking::BLOCK_QUBITS;
+pub use dense_checking::BUFFER_SIZE;
+use dense_checking::BlockCheck;
+use dense_checking::check_call;
+use dense_judging::Judged;
+use dense_judging::judge;
+pub use dense_types::Answer;
+pub use dense_types::Outcome;
+use record_reading::gate_bytes;
+
+// The outcome of what the columns show.
+fn outcome_of(judged: Judged) -> Outcome
+    ensures { λ r. ⌜ foundOf r ≡ found (unfitOf judged) ⌝ }
+{
+    match judged {
+        Judged::Equal => Outcome {
+            verdict: Verdict::Equal,
+            first: 0,
+            second: 0,
+        },
+        Judged::Different(v) => Outcome {
+            verdict: Verdict::Different,
+            first: 0,
+            second: v,
+        },
+    }
+}
+
+// Two lists compared, all columns of both: the verdict with its inputs, or why the pair is turned down. Only the numbers that the comparison
+// may use are lent on.
+pub fn compare(first: &[u8], second: &[u8], buffer: &mut [i64]) -> Answer
+    ensures steps { λ r. ⌜ saidOf r ≡ denseComparison (now (first .entry)) (now (second .entry)) (length (now (buffer .entry))) ⌝ }
+    ensures kept { λ r. ⌜ now (buffer .exit) ≡ leftBy (saidOf r) (now (buffer .entry)) ⌝ }
+    ensures exact { λ r. ⌜ Exact (now (first .entry)) (now (second .entry)) r ⌝ }
+    ensures sound { λ r. ⌜ Sound (now (first .entry)) (now (second .entry)) r ⌝ }
+    ensures first { λ r. ⌜ First (now (first .entry)) (now (second .entry)) r ⌝ }
+    ensures inputs { λ r. ⌜ Inputs (now (first .entry)) (now (second .entry)) r ⌝ }
+    ensures agrees { λ r. ⌜ Agrees (now (first .entry)) (now (second .entry)) r ⌝ }
+{
+    match check_call(first, second, buffer.len()) {
+        BlockCheck::Refused(refusal) => Answer::Refused(refusal),
+        BlockCheck::Good {
+            n,
+            g,
+            h,
+            first_h,
+            second_h,
+        } => {
+            let judged = judge(
+                &mut buffer[..BUFFER_SIZE],
+                n,
+                gate_bytes(first, g),
+                gate_bytes(second, h),
+                first_h,
+                second_h,
+            );
+            Answer::Compared(outcome_of(judged))
+        }
+    }
+}

@@ -1,0 +1,2 @@
+-- Laws of the checks on a call of the dense comparison.
+pub mod Rows

@@ -1,0 +1,2 @@
+-- What the checks on a call of the dense comparison find.
+pub mod Checking
