@@ -30,7 +30,7 @@ power-requires c κs = search needs
 add-exchange : tie.Need-add-exchange
 add-exchange c =
     let s = c .before .before .before .before .before .before in
-    record { fits = omega (arith, c .power .ensures, few-places (s .args .b) (omega arith), few-places (s .args .n) (omega arith)) }
+    record { fits = omega (arith, c .power .ensures, few-places (s .args .a) (omega arith), few-places (s .args .b) (omega arith), few-places (s .args .n) (omega arith)) }
 
 exchange-requires : tie.Need-exchange-requires
 exchange-requires c κs =

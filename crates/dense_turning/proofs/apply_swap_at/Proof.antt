@@ -35,7 +35,7 @@ power-requires c κs = search needs
 add-exchange : tie.Need-add-exchange
 add-exchange c =
     let s = c .before .before .before .before .before .before in
-    record { fits = omega (arith, c .power .ensures, few-places (s .args .a) (omega arith), few-places (s .args .n) (omega arith)) }
+    record { fits = omega (arith, c .power .ensures, few-places (s .args .a) (omega arith), few-places (s .args .b) (omega arith), few-places (s .args .n) (omega arith)) }
 
 power-requires-2 : tie.Need-power-requires-2
 power-requires-2 c κs = search needs
@@ -43,7 +43,7 @@ power-requires-2 c κs = search needs
 add-exchange-2 : tie.Need-add-exchange-2
 add-exchange-2 c =
     let s = c .before .before .before .before .before .before .before in
-    record { fits = omega (arith, c .power2 .ensures, few-places (s .args .b) (omega arith), few-places (s .args .n) (omega arith)) }
+    record { fits = omega (arith, c .power2 .ensures, few-places (s .args .a) (omega arith), few-places (s .args .b) (omega arith), few-places (s .args .n) (omega arith)) }
 
 exchange-requires : tie.Need-exchange-requires
 exchange-requires c κs =
