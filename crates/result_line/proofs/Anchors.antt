@@ -6,7 +6,8 @@ use lib.ListN.{length}
 use Rattle.comparison_meaning.specs.Verdict.{equal, different, undecided}
 use Rattle.record_format.specs.Row.{fault, faultAt}
 use Rattle.comparison_types.specs.Call.{inFirst, inSecond, says, refuses}
-use Rattle.result_line.specs.Line.{digits, fields, refusedLine, lineOf}
+use Rattle.line_bytes.specs.Line.{digits, fields, refusedLine}
+use Rattle.result_line.specs.Line.{lineOf}
 
 -- document 01's example: `equal 0 0 1 1 1 0 0` and a newline
 pub example-line :
@@ -14,11 +15,6 @@ pub example-line :
     ≡ 101 ∷ 113 ∷ 117 ∷ 97 ∷ 108 ∷ 32 ∷ 48 ∷ 32 ∷ 48 ∷ 32 ∷ 49 ∷ 32 ∷ 49 ∷ 32 ∷ 49 ∷ 32 ∷ 48 ∷ 32 ∷ 48 ∷ 10 ∷ []
 unfolding digits fields
 example-line = refl
-
--- `refused 12` and a newline
-pub refused-line : refusedLine 12 ≡ 114 ∷ 101 ∷ 102 ∷ 117 ∷ 115 ∷ 101 ∷ 100 ∷ 32 ∷ 49 ∷ 50 ∷ 10 ∷ []
-unfolding digits fields
-refused-line = refl
 
 -- the line of a bad gate is that of its number, whichever list and gate it is, and so is that of a short body
 pub number-alone :

@@ -1,58 +1,20 @@
--- The line that the program prints, as ASCII bytes: document 01, "Pairs to try".
+-- The line that the program prints, as ASCII bytes: document 01, "Pairs to try" and "Where a call is turned down".
 -- Assumes nothing.
-use Prim.Native.Nat.{ℕ, zero, suc, _+_, _*_, _-_, _/_, _%_, _≤_}
-use mathlib.Core.Path.{_≡_}
-use mathlib.Core.Bool.{cond}
-use mathlib.Core.List.{List, [], _∷_, _++_}
-use lib.Dec.{ltb}
-use lib.ListN.{length, take, drop}
+use Prim.Native.Nat.{ℕ}
+use mathlib.Core.Bool.{Bool, cond}
+use mathlib.Core.List.{List, [], _∷_}
 use Rattle.comparison_meaning.specs.Verdict.{Verdict, equal, different, undecided}
-use Rattle.comparison_types.specs.Call.{Said, says, refuses, numberIn}
-
--- the byte of a decimal digit: 48 is `0`
-abbrev pub digit : ℕ → ℕ
-digit d = 48 + d
-
--- a number in decimal, if k digits are enough: the digits of its tenth, then the last one; no zero in front of others
-unfoldable pub digits : ℕ → ℕ → List ℕ
-digits zero n = []
-digits (suc k) n = cond (ltb n 10) (digit n ∷ []) (digits k (n / 10) ++ (digit (n % 10) ∷ []))
-
--- a number below 100,000 in decimal; the numbers of a line are below 65,536
-abbrev pub decimal : ℕ → List ℕ
-decimal n = digits 5 n
-
--- the number that decimal digits stand for, read behind a number that was read before them (`decimal-reads-back` in proofs/Laws.antt)
-unfoldable pub readOn : ℕ → List ℕ → ℕ
-readOn m [] = m
-readOn m (d ∷ ds) = readOn (m * 10 + (d - digit 0)) ds
-
--- a space and a number
-abbrev pub field : ℕ → List ℕ
-field n = 32 ∷ decimal n
-
--- numbers in order, a space before each
-unfoldable pub fields : List ℕ → List ℕ
-fields [] = []
-fields (n ∷ ns) = field n ++ fields ns
-
--- a line: a word, numbers, a newline
-abbrev pub lineWith : List ℕ → List ℕ → List ℕ
-lineWith word ns = word ++ fields ns ++ (10 ∷ [])
+use Rattle.comparison_types.specs.Call.{Said, says, refuses, numberIn, resultOf}
+use Rattle.comparison_types.specs.declared.Answer.{Answer}
+use Rattle.comparison_types.specs.declared.Answer.the-variants.{Compared, Refused}
+use Rattle.line_bytes.specs.Line.{lineWith, refusedLine}
+use Rattle.pair_bytes.specs.Number.{refusedBy}
 
 -- the verdict's word: `equal`, `different`, `undecided`
 abbrev pub verdictWord : Verdict → List ℕ
 verdictWord equal = 101 ∷ 113 ∷ 117 ∷ 97 ∷ 108 ∷ []
 verdictWord different = 100 ∷ 105 ∷ 102 ∷ 102 ∷ 101 ∷ 114 ∷ 101 ∷ 110 ∷ 116 ∷ []
 verdictWord undecided = 117 ∷ 110 ∷ 100 ∷ 101 ∷ 99 ∷ 105 ∷ 100 ∷ 101 ∷ 100 ∷ []
-
--- `refused`
-abbrev pub refusedWord : List ℕ
-refusedWord = 114 ∷ 101 ∷ 102 ∷ 117 ∷ 115 ∷ 101 ∷ 100 ∷ []
-
--- the line of a refusal: `refused` and the number, no more
-abbrev pub refusedLine : ℕ → List ℕ
-refusedLine k = lineWith refusedWord (k ∷ [])
 
 -- the line of what a comparison says: the verdict, the two inputs and the five counts, or that of the refusal's number; neither the list
 -- nor the gate's index is shown
@@ -63,10 +25,8 @@ lineOf (says r) =
     (r .first ∷ r .second ∷ r .pins ∷ r .sums ∷ r .turns ∷ r .joins ∷ r .left ∷ [])
 lineOf (refuses f) = refusedLine (numberIn f)
 
--- a text stands at the front of a buffer: r is its length, old the buffer before and new the buffer after; the bytes behind it are as
--- they were. The last two parts follow from the first two; they stand here so that a caller's `&line[..r]` asks for no proof
-pub record AtFront (text old : List ℕ) (r : ℕ) (new : List ℕ) : Type 0 where
-  pub end : r ≡ length text
-  pub leaves : new ≡ text ++ drop r old
-  pub fits : r ≤ length new
-  pub part : r ≡ length (take r new)
+-- the line that the program prints: where bytes follow one of the records, number 12 takes its place before an outcome and among the numbers
+-- of a refusal; else that of what the comparison says (`nothing-behind` in proofs/Laws.antt)
+abbrev pub programLine : Bool → Answer → List ℕ
+programLine follow (Compared o) = cond follow (refusedLine 12) (lineOf (says (resultOf o)))
+programLine follow (Refused r) = refusedLine (refusedBy follow r)

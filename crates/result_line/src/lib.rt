@@ -1,92 +1,29 @@
 // The line that the program prints: document 01, "Pairs to try". The verdict's word and seven numbers, or `refused` and the number, as
-// bytes at the front of a lent buffer. The public calls, write_answer and write_refusal, have no `requires`.
-ghost use mathlib.Core.Path.{_≡_};
-ghost use Prim.Native.Nat.{_+_, _*_, _≤_, _<_};
-ghost use mathlib.Core.List.{[], _∷_};
+// bytes at the front of a lent buffer. write_answer has no `requires`.
+ghost use Prim.Native.Nat.{_≤_};
 ghost use lib.ListN.{length};
-ghost use Rattle.comparison_types.specs.Call.{saidOf, resultOf, says};
-ghost use Rattle.result_line.specs.Line.{digit as Line·digit, decimal, field, fields, refusedLine, lineOf, lineWith, AtFront};
-ghost use Rattle.result_line.specs.Inner.{Wrote};
+ghost use Rattle.comparison_types.specs.Call.{resultOf, verdictOf, says};
+ghost use Rattle.line_bytes.specs.Line.{lineWith, AtFront};
+ghost use Rattle.result_line.specs.Line.{verdictWord, lineOf, programLine};
 use comparison::Answer;
 use comparison::Outcome;
 use comparison::Verdict;
+use line_bytes::LINE_SIZE;
+use line_bytes::put_line;
+use line_bytes::write_refusal;
+use pair_bytes::BYTES_FOLLOW;
+use pair_bytes::refused_by;
 
-// The bytes of a buffer that every line fits into; the longest line takes 42.
-pub const LINE_SIZE: usize = 64;
-
-// One byte at a place.
-fn put_byte(line: &mut [u8], at: usize, byte: u8) -> usize
-    requires { ⌜ at < length (now line) ⌝ }
-    ensures { λ r. ⌜ Wrote at (byte ∷ []) (now (line .entry)) r (now (line .exit)) ⌝ }
+// The line of a verdict's word and some numbers.
+pub fn write_verdict(verdict: Verdict, numbers: &[u16], line: &mut [u8; LINE_SIZE]) -> usize
+    requires { ⌜ length (now numbers) ≤ 7 ⌝ }
+    ensures { λ r. ⌜ AtFront (lineWith (verdictWord (verdictOf verdict)) (now (numbers .entry))) (now (line .entry)) r (now (line .exit)) ⌝ }
 {
-    line[at] = byte;
-    at + 1
-}
-
-// The byte of a decimal digit.
-fn digit(x: u16) -> u8
-    requires { ⌜ x < 10 ⌝ }
-    ensures { λ r. ⌜ r ≡ Line·digit x ⌝ }
-{
-    b'0' + x as u8
-}
-
-// A number in decimal, from a place on: the digits before the last, then the last.
-fn put_number(line: &mut [u8], at: usize, x: u16) -> usize
-    requires { ⌜ at + length (decimal x) ≤ length (now line) ⌝ }
-    ensures { λ r. ⌜ Wrote at (decimal x) (now (line .entry)) r (now (line .exit)) ⌝ }
-{
-    if x < 10 {
-        return put_byte(line, at, digit(x));
+    match verdict {
+        Verdict::Equal => put_line(line, b"equal", numbers),
+        Verdict::Different => put_line(line, b"different", numbers),
+        Verdict::Undecided => put_line(line, b"undecided", numbers),
     }
-    let end = put_number(line, at, x / 10);
-    put_byte(line, end, digit(x % 10))
-}
-
-// A space and a number.
-fn put_field(line: &mut [u8], at: usize, x: u16) -> usize
-    requires { ⌜ at + 6 ≤ length (now line) ⌝ }
-    ensures { λ r. ⌜ Wrote at (field x) (now (line .entry)) r (now (line .exit)) ⌝ }
-{
-    let end = put_byte(line, at, b' ');
-    put_number(line, end, x)
-}
-
-// Numbers in order, a space before each.
-fn put_fields(line: &mut [u8], at: usize, numbers: &[u16]) -> usize
-    requires { ⌜ at + 6 * length (now numbers) ≤ length (now line) ⌝ }
-    ensures { λ r. ⌜ Wrote at (fields (now (numbers .entry))) (now (line .entry)) r (now (line .exit)) ⌝ }
-{
-    let mut end = at;
-    let mut i = 0;
-    while i < numbers.len() {
-        end = put_field(line, end, numbers[i]);
-        i += 1;
-    }
-    end
-}
-
-// A word at the front.
-fn put_word(line: &mut [u8], word: &[u8]) -> usize
-    requires { ⌜ length (now word) ≤ length (now line) ⌝ }
-    ensures { λ r. ⌜ Wrote 0 (now (word .entry)) (now (line .entry)) r (now (line .exit)) ⌝ }
-{
-    let mut i = 0;
-    while i < word.len() {
-        line[i] = word[i];
-        i += 1;
-    }
-    i
-}
-
-// A line: a word, numbers, the line's end.
-fn put_line(line: &mut [u8], word: &[u8], numbers: &[u16]) -> usize
-    requires { ⌜ length (now word) + 6 * length (now numbers) + 1 ≤ length (now line) ⌝ }
-    ensures { λ r. ⌜ AtFront (lineWith (now (word .entry)) (now (numbers .entry))) (now (line .entry)) r (now (line .exit)) ⌝ }
-{
-    let mut end = put_word(line, word);
-    end = put_fields(line, end, numbers);
-    put_byte(line, end, b'\n')
 }
 
 // The line of an outcome: its verdict's word, the two inputs and the five counts.
@@ -103,27 +40,21 @@ fn write_outcome(o: Outcome, line: &mut [u8; LINE_SIZE]) -> usize
         o.left as u16,
     ];
     let verdict = o.verdict;
-    match verdict {
-        Verdict::Equal => put_line(line, b"equal", &numbers),
-        Verdict::Different => put_line(line, b"different", &numbers),
-        Verdict::Undecided => put_line(line, b"undecided", &numbers),
-    }
+    write_verdict(verdict, &numbers, line)
 }
 
-// The line of a refusal by its number. Returns the line's length; the bytes behind it stay as they were.
-pub fn write_refusal(number: u8, line: &mut [u8; LINE_SIZE]) -> usize
-    ensures { λ r. ⌜ AtFront (refusedLine number) (now (line .entry)) r (now (line .exit)) ⌝ }
-{
-    let numbers = [number as u16];
-    put_line(line, b"refused", &numbers)
-}
-
-// The line of what the comparison answered. Returns the line's length; the bytes behind it stay as they were.
-pub fn write_answer(answer: Answer, line: &mut [u8; LINE_SIZE]) -> usize
-    ensures { λ r. ⌜ AtFront (lineOf (saidOf answer)) (now (line .entry)) r (now (line .exit)) ⌝ }
+// The line of what the comparison answered, or of number 12 where bytes follow one of the records. Returns the line's length; the bytes
+// behind it stay as they were.
+pub fn write_answer(answer: Answer, follow: bool, line: &mut [u8; LINE_SIZE]) -> usize
+    ensures { λ r. ⌜ AtFront (programLine follow answer) (now (line .entry)) r (now (line .exit)) ⌝ }
 {
     match answer {
-        Answer::Compared(outcome) => write_outcome(outcome, line),
-        Answer::Refused(refusal) => write_refusal(comparison::number(refusal), line),
+        Answer::Compared(outcome) => {
+            if follow {
+                return write_refusal(BYTES_FOLLOW, line);
+            }
+            write_outcome(outcome, line)
+        }
+        Answer::Refused(refusal) => write_refusal(refused_by(refusal, follow), line),
     }
 }
