@@ -1,7 +1,7 @@
 // The bytes of a pair that a program reads: two records of one stream parted, whether bytes follow a record, and the place of its number,
 // 12, among the others: document 01, "Where a call is turned down".
 ghost use mathlib.Core.Path.{_≡_};
-ghost use lib.ListN.{length, take};
+ghost use lib.ListN.{take};
 ghost use Rattle.line_bytes.specs.Line.{AtFront};
 ghost use Rattle.pair_bytes.specs.Pair.{inputSize, ownSize, follow, Parted};
 ghost use Rattle.pair_bytes.specs.Number.{wereRead, refusedBy};
