@@ -2,16 +2,13 @@
 lists that an accepted pair may have, unless it says otherwise.
 """
 import reference as ref
+from reference import h_gates
 
 ALL = list(range(11))
 CLIFFORD = [k for k in ALL if k not in (ref.T, ref.TI)]
 WITHOUT_H = [k for k in ALL if k != ref.H]
 KINDS = (ALL, CLIFFORD, [ref.T, ref.TI, ref.H, ref.CX, ref.CZ], [ref.H, ref.CZ, ref.S], [k for k in WITHOUT_H if k > ref.Y])
 MOST_GATES, MOST_VARIABLES = 512, 64
-
-
-def h_gates(gates):
-    return sum(kind == ref.H for kind, _, _ in gates)
 
 
 def one(kind, *qubits):

@@ -1,7 +1,8 @@
-"""An independent implementation of document 01, for tests alone: records and reports, the steps, the pick, and exact dense columns.
+"""An independent implementation of document 01 and of item 2 of 02, for tests alone: records and reports, the steps, the pick, exact dense
+columns, and the comparison of small blocks by them.
 
 It shares no code with the engine and is written for plainness: terms are a dictionary from set to coefficient, and columns are
-dictionaries from output to four whole numbers.
+dictionaries from output to four whole numbers. A small block's columns are run all at once: they are the digits of large numbers.
 """
 
 from itertools import combinations
@@ -10,6 +11,8 @@ X, Y, Z, S, SI, T, TI, H, CX, CZ, SWAP = range(11)
 INVERSE = {S: SI, SI: S, T: TI, TI: T}
 VERDICTS = ("equal", "different", "undecided")
 PLACES = 3136
+# of a small block
+NUMBERS, MOST_QUBITS, MOST_HADAMARDS = 512, 6, 60
 
 
 class Refused(Exception):
@@ -289,10 +292,14 @@ def run_program(data):
     return " ".join(map(str, compare(n, first, second)))
 
 
+def h_gates(gates):
+    return sum(kind == H for kind, _, _ in gates)
+
+
 def check_pair(n, first, m, second):
     if n != m:
         raise Refused(8)
-    if n + sum(k == H for k, _, _ in first + second) > 64:
+    if n + h_gates(first + second) > 64:
         raise Refused(9)
 
 
@@ -304,12 +311,28 @@ def read_list(data, which):
         raise Refused(refusal.number, refusal.index, which) from None
 
 
-def read_pair(first, second, words, places):
-    """n and both lists of a pair that is accepted with workspaces of so many words and byte places; raises Refused."""
+def read_lists(first, second):
+    """n and both lists of a pair that passes 8 and 9; raises Refused."""
     n, gates = read_list(first, "first")
     m, others = read_list(second, "second")
     check_pair(n, gates, m, others)
+    return n, gates, others
+
+
+def read_pair(first, second, words, places):
+    """n and both lists of a pair that is accepted with workspaces of so many words and byte places; raises Refused."""
+    pair = read_lists(first, second)
     if words < PLACES or places < PLACES:
+        raise Refused(10)
+    return pair
+
+
+def read_small(first, second, numbers):
+    """n and both lists of a pair that is accepted as a small block with a buffer of so many numbers; raises Refused."""
+    n, gates, others = read_lists(first, second)
+    if n > MOST_QUBITS or h_gates(gates + others) > MOST_HADAMARDS:
+        raise Refused(14)
+    if numbers < NUMBERS:
         raise Refused(10)
     return n, gates, others
 
@@ -383,8 +406,7 @@ class Columns:
 
     def __init__(self, first, second):
         self.first, self.second = first, second
-        self.h1 = sum(k == H for k, _, _ in first)
-        self.h2 = sum(k == H for k, _, _ in second)
+        self.h1, self.h2 = h_gates(first), h_gates(second)
 
     def fitting(self, v):
         """The powers that fit column v."""
@@ -400,3 +422,55 @@ class Columns:
             if not powers:
                 break
         return powers
+
+
+# Small blocks. An output has its amplitudes from every input at once: four large numbers whose digits, of 64 bits each and of either sign,
+# belong to the inputs, input 0 lowest. Adding such numbers and negating them adds and negates their digits, as long as these stay below 2^63
+# in size; with 60 H gates they, and their differences, stay below 2^62.
+DIGIT = 64
+
+
+def output(rows, w, kind, a, b):
+    """Output w after a gate, from the outputs before it, H without its factor."""
+    one, bit = w >> a & 1, 1 << a
+    if kind == X:
+        return rows[w ^ bit]
+    if kind == Y:
+        return times_omega(rows[w ^ bit], 2 if one else 6)
+    if kind == H:
+        return plus(rows[w & ~bit], times_omega(rows[w], 4) if one else rows[w | bit])
+    if kind == CX:
+        return rows[w ^ one << b]
+    if kind == CZ:
+        return times_omega(rows[w], 4) if one and w >> b & 1 else rows[w]
+    if kind == SWAP:
+        return rows[w ^ bit ^ 1 << b] if one != w >> b & 1 else rows[w]
+    return times_omega(rows[w], {Z: 4, S: 2, SI: 6, T: 1, TI: 7}[kind]) if one else rows[w]
+
+
+def matrix(n, gates, roots):
+    """Every output of a list, times so many roots of two."""
+    rows = [(1 << DIGIT * w, 0, 0, 0) for w in range(1 << n)]
+    for kind, a, b in gates:
+        rows = [output(rows, w, kind, a, b) for w in range(1 << n)]
+    return [times_root_two(z, roots) for z in rows]
+
+
+def first_misfit(j, left, right):
+    """The first input whose column of the left ω^j does not carry to that of the right, or None."""
+    wrong = 0
+    for x, y in zip(left, right):
+        for p, q in zip(times_omega(x, j), y):
+            wrong |= p - q
+    return ((wrong & -wrong).bit_length() - 1) // DIGIT if wrong else None
+
+
+def compare_small(n, first, second, events=None):
+    """The verdict and the two inputs, by trying each of the eight powers on all columns. The power that carries is added to events."""
+    left, right = matrix(n, first, h_gates(second)), matrix(n, second, h_gates(first))
+    misfits = [first_misfit(j, left, right) for j in range(8)]
+    if None not in misfits:
+        return "different", 0, max(misfits)
+    if events is not None:
+        events += [f"power {j}" for j in range(8) if misfits[j] is None]
+    return "equal", 0, 0
