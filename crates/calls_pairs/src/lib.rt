@@ -1,4 +1,4 @@
-// The calls on a pair, compare and pick. The numbers say how many words and bytes of the workspaces are lent, and with what all their places
+// The calls on a pair, compare and pick, and how a verdict and a pair's refusal are printed. The numbers say how many words and bytes of the workspaces are lent, and with what all their places
 // begin.
 use calls_lists::MOST_BYTES;
 use calls_lists::bytes_of;
@@ -16,7 +16,7 @@ use comparison::Outcome;
 use comparison::Refusal;
 
 // A verdict's word, by its number.
-fn verdict(number: u8) {
+pub fn verdict(number: u8) {
     match number {
         0 => print::text(b"equal"),
         1 => print::text(b"different"),
@@ -40,7 +40,7 @@ fn in_list(list: &[u8], r: record_format::Refusal) {
 }
 
 // `refused`, the number and, where one of the lists is refused, which one and the gate.
-fn refusal(r: Refusal) {
+pub fn refusal(r: Refusal) {
     print::refused(comparison::number(r));
     match r {
         Refusal::First(list) => in_list(b" first", list),

@@ -36,10 +36,15 @@ pub fn refused(k: u8) {
     number(wide(k));
 }
 
-// The two inputs and the five counts of a result.
-pub fn result(first: u16, second: u16, counts: [u8; 5]) {
+// The two inputs of a result.
+pub fn inputs(first: u16, second: u16) {
     number(first as usize);
     number(second as usize);
+}
+
+// The two inputs and the five counts of a result.
+pub fn result(first: u16, second: u16, counts: [u8; 5]) {
+    inputs(first, second);
     let mut i = 0;
     while i < 5 {
         number(wide(counts[i]));

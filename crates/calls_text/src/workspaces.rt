@@ -7,7 +7,7 @@ use crate::print;
 const PLACES: usize = 3136;
 
 // The number behind one: Marsaglia's xorshift, which leads from 0 to 0 alone.
-fn next(x: u64) -> u64 {
+pub fn next(x: u64) -> u64 {
     let y = x ^ (x << 13);
     let z = y ^ (y >> 7);
     z ^ (z << 17)
@@ -41,17 +41,22 @@ pub fn fill_bytes(bytes: &mut [u8], seed: u64) {
 }
 
 // How many of the places that a comparison uses are 0, and how many of all hold what they held before.
-struct Seen {
-    zero: usize,
-    kept: usize,
+pub struct Seen {
+    pub zero: usize,
+    pub kept: usize,
+}
+
+// One place more: is it used and 0, and does it hold what it held before?
+pub fn with(seen: Seen, is_zero: bool, is_kept: bool) -> Seen {
+    Seen {
+        zero: plus(seen.zero, is_zero),
+        kept: plus(seen.kept, is_kept),
+    }
 }
 
 // One place more: what it holds, and what it held before.
 fn and(seen: Seen, at: usize, held: u64, before: u64) -> Seen {
-    Seen {
-        zero: plus(seen.zero, is_zero_place(at, held)),
-        kept: plus(seen.kept, held == before),
-    }
+    with(seen, is_zero_place(at, held), held == before)
 }
 
 // Is this a place that a comparison uses, and does it hold 0?
@@ -91,7 +96,7 @@ fn bytes_seen(bytes: &[u8], seed: u64) -> Seen {
 }
 
 // What was seen of a workspace.
-fn show_seen(seen: Seen) {
+pub fn show_seen(seen: Seen) {
     print::text(b" zero");
     print::number(seen.zero);
     print::text(b" kept");

@@ -11,11 +11,8 @@ Inv-loop first second counts i₀ i = Unit
 abbrev μ-loop : tie.MeasureT-loop
 μ-loop first second counts i₀ i = 5 - i
 
-number-requires : tie.Need-number-requires Inv-loop μ-loop
-number-requires c κs = search needs
-
-number-requires-2 : tie.Need-number-requires-2 Inv-loop μ-loop
-number-requires-2 c κs = search needs
+inputs-requires : tie.Need-inputs-requires Inv-loop μ-loop
+inputs-requires c κs = search needs
 
 loop-holds : tie.Need-loop-holds Inv-loop μ-loop
 loop-holds c = search needs
@@ -26,8 +23,8 @@ array-read-wide c = search needs
 wide-requires : tie.Need-wide-requires Inv-loop μ-loop
 wide-requires c κs = search needs
 
-number-requires-3 : tie.Need-number-requires-3 Inv-loop μ-loop
-number-requires-3 c κs = search needs
+number-requires : tie.Need-number-requires Inv-loop μ-loop
+number-requires c κs = search needs
 
 add-i : tie.Need-add-i Inv-loop μ-loop
 add-i c = search needs
@@ -47,12 +44,11 @@ result-spec =
     (tie.spec
     Inv-loop
     μ-loop
-    number-requires
-    number-requires-2
+    inputs-requires
     loop-holds
     array-read-wide
     wide-requires
-    number-requires-3
+    number-requires
     add-i
     loop-less
     loop-again
