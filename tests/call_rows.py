@@ -1,12 +1,12 @@
-"""Rows of the programs record_calls and pair_calls, and the line that each must give by the independent implementation beside this file.
-tests/README.md describes both.
+"""Rows of the programs record_calls, pair_calls and dense_calls, and the line that each must give by the independent implementation beside
+this file. tests/README.md describes both.
 """
 import re
 
 import reference as ref
 
 LETTERS = "xyzsrtuhckw"
-MOST_LINE, MOST_BYTES, MOST_PLACES = 8192, 2048, 3200
+MOST_LINE, MOST_BYTES, MOST_PLACES, MOST_NUMBERS = 8192, 2048, 3200, 520
 
 
 class Bad(Exception):
@@ -86,11 +86,22 @@ def refused(refusal):
     return f"refused {refusal.number}{which}{gate}"
 
 
+def left(accepted, seed, used, most):
+    """What so many places hold afterwards: how many of the used ones, the first, are 0, and how many of all hold what they held."""
+    zero = used if accepted or seed == 0 else 0
+    kept = most - used if accepted and seed else most
+    return f"zero {zero} kept {kept}"
+
+
 def workspaces(accepted, seed):
-    """What the workspaces hold afterwards: places of the first 3,136 that are 0, places of all that hold what they held."""
-    zero = ref.PLACES if accepted or seed == 0 else 0
-    kept = MOST_PLACES - ref.PLACES if accepted and seed else MOST_PLACES
-    return f", sets zero {zero} kept {kept}, coeffs zero {zero} kept {kept}"
+    """What both workspaces of a pair hold afterwards."""
+    both = left(accepted, seed, ref.PLACES, MOST_PLACES)
+    return f", sets {both}, coeffs {both}"
+
+
+def lent_numbers(accepted, seed):
+    """What the numbers that a small block is lent hold afterwards."""
+    return f", numbers {left(accepted, seed, ref.NUMBERS, MOST_NUMBERS)}"
 
 
 def written(call, buffer, size):
@@ -150,10 +161,15 @@ def write_report(numbers, first, second, events):
     return written(lambda b: ref.write_report(b, *fields), bytes_of(second), size)
 
 
+def both_of(first, second):
+    """The bytes of both lists; the first slice twice where the second is written =."""
+    data = bytes_of(first)
+    return data, data if second == "=" else bytes_of(second)
+
+
 def pair_of(numbers, first, second):
     words, places, seed = numbers_of(numbers, [MOST_PLACES + 1, MOST_PLACES + 1, ANY])
-    data = bytes_of(first)
-    return data, data if second == "=" else bytes_of(second), words, places, seed
+    return *both_of(first, second), words, places, seed
 
 
 def compare(numbers, first, second, events):
@@ -174,17 +190,28 @@ def pick(numbers, first, second, events):
     return f"{'second' if is_second else 'first'} {part.hex()}" + workspaces(True, seed)
 
 
+def dense(numbers, first, second, events):
+    lent, seed = numbers_of(numbers, [MOST_NUMBERS + 1, ANY])
+    a, b = both_of(first, second)
+    try:
+        result = ref.compare_small(*ref.read_small(a, b, lent), events)
+    except ref.Refused as refusal:
+        return refused(refusal) + lent_numbers(False, seed)
+    return " ".join(map(str, result)) + lent_numbers(True, seed)
+
+
 READERS = {"check": check, "gates": gates, "read_report": read_report}
 BUILDERS = {"start": start, "add": add, "write_report": write_report}
 PAIRS = {"compare": compare, "pick": pick}
-CALLS = {**READERS, **BUILDERS, "check_gate": check_gate, "inverse": inverse, **PAIRS}
-PROGRAMS = ("record_calls", "pair_calls")
+SMALL = {"dense": dense}
+CALLS = {**READERS, **BUILDERS, "check_gate": check_gate, "inverse": inverse, **PAIRS, **SMALL}
+PROGRAMS = ("record_calls", "pair_calls", "dense_calls")
 
 
 def program_of(row):
     """The program that a row is for; one that names no call on a pair goes to the record layer's."""
-    parts = row.split(";")
-    return PROGRAMS[len(parts) > 1 and parts[1] in PAIRS]
+    call = (row.split(";") + [""])[1]
+    return "pair_calls" if call in PAIRS else "dense_calls" if call in SMALL else "record_calls"
 
 
 def answer(row, events=None):

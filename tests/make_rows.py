@@ -1,9 +1,9 @@
 #!/usr/bin/env python3
-"""Writes the rows of the programs record_calls and pair_calls and what they must print for them, from tests/rows.txt.
+"""Writes the rows of the programs record_calls, pair_calls and dense_calls and what they must print for them, from tests/rows.txt.
 
     python3 tests/make_rows.py [--check]
 
-The files go to stdin and stdout in the crates of the two programs; the gate runs each on the one and compares with the other. Every answer
+The files go to stdin and stdout in the crates of the programs; the gate runs each on the one and compares with the other. Every answer
 of rows.txt is held to the independent implementation beside this file, and the engine has no part in it. With --check nothing is written: the files
 must be those that would be.
 """
@@ -36,11 +36,12 @@ def read_rows(path):
 
 
 def expected(number, row, answer):
-    """The line of a row, where the written answer is the independent implementation's, but perhaps for the workspaces."""
-    want = call_rows.answer(row)
-    if want != answer and want.split(", sets ")[0] != answer:
+    """The line of a row, where the written answer is the independent implementation's, but perhaps for what is lent."""
+    line = call_rows.line(row)
+    want = line.removeprefix(row.split(";")[0] + ": ")
+    if answer not in (want, re.split(", (?:sets|numbers) ", want)[0]):
         sys.exit(f"rows.txt:{number}: written {answer!r}, but the independent implementation says {want!r}")
-    return call_rows.line(row)
+    return line
 
 
 def write(program, name, content):
@@ -63,7 +64,7 @@ def main():
     for program, done in rows.items():
         write(program, "stdin", [row for row, _ in done])
         write(program, "stdout", [line for _, line in done] + [f"rows {len(done)}"])
-    print(" and ".join(f"{len(done)} rows of {program}" for program, done in rows.items()))
+    print(", ".join(f"{len(done)} rows of {program}" for program, done in rows.items()))
 
 
 if __name__ == "__main__":
