@@ -1,12 +1,13 @@
 #!/usr/bin/env python3
-"""Holds the engine to the independent implementation beside this file: the programs record_calls and pair_calls, which drive every public
-call with rows of text, and the program compare, which reads two records.
+"""Holds the engine to the independent implementation beside this file: the programs record_calls, pair_calls and dense_calls, which drive
+every public call with rows of text, and the program compare, which reads two records.
 
-    rt check record_calls pair_calls compare && python3 tests/against_reference.py [TIMES]
+    rt check record_calls pair_calls dense_calls compare && python3 tests/against_reference.py [TIMES]
 
 Fixed cases at the limits come first, then random families (random_pairs.py) that reach every rule; TIMES multiplies the random cases. Up to
-5 qubits, equal and different are also held to exact dense columns. Every class of cases is counted. The run fails where a line differs, a
-class never came up, or one came up that classes.py does not list.
+5 qubits, equal and different are also held to exact dense columns. Small blocks go through dense_calls and pair_calls both, and where the path
+sum decides, the two must print the same verdict. Every class of cases is counted. The run fails where a line differs, two verdicts do, a class
+never came up, or one came up that classes.py does not list.
 """
 import os
 import random
@@ -19,7 +20,7 @@ import call_rows
 import random_pairs as pairs
 import reference as ref
 from call_rows import list_text, row
-from classes import CLASSES, kind_class
+from classes import BOTH, CLASSES, kind_class
 
 ROOT = os.path.join(os.path.dirname(os.path.abspath(__file__)), "..")
 SEED = 20261115
@@ -43,6 +44,9 @@ class Check:
         self.rows = []
         self.lines = []
         self.rows_run = 0
+        # rows of a small block and of the same pair for the path sum; what was printed, by the row's name
+        self.both = []
+        self.printed = {}
 
     def see(self, *names):
         self.seen.update(names)
@@ -92,6 +96,7 @@ class Check:
         for (text, want), got in zip(pairs, lines):
             if want != got:
                 fail(f"row\n{text}\nprinted\n{got}\nwanted\n{want}")
+            self.printed[text.split(";")[0]] = got
         if lines[len(pairs) :] != [f"rows {len(pairs)}"]:
             fail(f"{name} printed {len(lines)} lines for {len(pairs)} rows")
         self.rows_run += len(pairs)
@@ -164,11 +169,15 @@ def see_bad_lists(check, call, first, second, refusal):
 # Pairs.
 
 
+def lent_bytes(first, second):
+    """The bytes of both parts of a row."""
+    return call_rows.both_of(*(part.hex() if isinstance(part, bytes) else part for part in (first, second)))
+
+
 def compare_row(check, numbers, first, second, call="compare"):
     """A row of the comparison or the pick. Gives the eight fields, or the number of the refusal."""
     answer, events = check.row(row("", call, numbers, first, second)[1:])
-    a = call_rows.bytes_of(first.hex() if isinstance(first, bytes) else first)
-    b = a if second == "=" else call_rows.bytes_of(second.hex() if isinstance(second, bytes) else second)
+    a, b = lent_bytes(first, second)
     refusal = refusal_of(ref.read_pair, a, b, *numbers[:2])
     if second == "=":
         check.see("compare: one slice given twice")
@@ -244,7 +253,7 @@ def see_events(check, n, gates, others, fields, events):
 def check_columns(check, n, first, second, fields):
     """Equal and different against the amplitudes."""
     columns = ref.Columns(first, second)
-    if fields[0] == "equal" and not columns.carry(n):
+    if fields[0] == "equal" and not columns.carry(1 << n):
         fail(f"equal, but no power carries {list_text(n, first)} to {list_text(n, second)}")
     if fields[0] == "different":
         a, b = int(fields[1]), int(fields[2])
@@ -291,6 +300,125 @@ def random_pair_row(check, rng, call, families=pairs.FAMILIES):
         check_columns(check, n, first, second, fields)
     if luck >= 0.18 and fields == 9 and (n, pairs.h_gates(first + second)) == (16, 49):
         check.see("compare: 16 qubits, 49 H gates")
+
+
+# Small blocks.
+
+
+def dense_row(check, numbers, first, second):
+    """A row of the dense comparison. Gives the verdict and its inputs, or the number of the refusal."""
+    answer, events = check.row(row("", "dense", numbers, first, second)[1:])
+    a, b = lent_bytes(first, second)
+    refusal = refusal_of(ref.read_small, a, b, numbers[0])
+    before = {0: "zeros", 1: "the lowest number", 2: "the highest number"}.get(numbers[1], "rubbish")
+    check.see(f"dense: {before}, {'refused' if refusal else 'accepted'}")
+    if refusal:
+        check.see(f"dense: refused {refusal.number}")
+        see_bad_lists(check, "dense", a, b, refusal)
+        return refusal.number
+    n, gates, others = ref.read_small(a, b, numbers[0])
+    fields = answer.split(",")[0].split()
+    see_small(check, n, gates, others, fields, events)
+    check.see(f"dense: {'512' if numbers[0] == 512 else 'more'} numbers")
+    if second == "=":
+        check.see("dense: one slice given twice")
+    if len(a) > len(ref.record(n, gates)):
+        check.see("dense: bytes behind a record")
+    return fields
+
+
+def see_small(check, n, gates, others, fields, events):
+    """The classes of an accepted small block."""
+    v, h = int(fields[2]), ref.h_gates(gates + others)
+    shapes = {
+        f"no T gate: {fields[0]}": ref.t_gates(gates) + ref.t_gates(others) == 0,
+        "60 H gates": h == 60,
+        "64 variables": n + h == 64,
+        "512 gates in both lists": len(gates) == len(others) == 512,
+    }
+    names = [fields[0], *events, f"{n} qubits", *(name for name, yes in shapes.items() if yes)]
+    if fields[0] == "different":
+        place = "the last" if v == (1 << n) - 1 else str(v) if v < 2 else "in the middle"
+        names.append(f"first differing input {place}")
+    check.see(*(f"dense: {name}" for name in names))
+    if n <= 3 and len(gates) + len(others) <= 40:
+        check_small_columns(check, n, gates, others, fields)
+
+
+def check_small_columns(check, n, gates, others, fields):
+    """The verdict and the input of a small block against its columns, one by one."""
+    columns, v = ref.Columns(gates, others), int(fields[2])
+    good = columns.carry(1 << n) if fields[0] == "equal" else columns.carry(v) and not columns.carry(v + 1)
+    if not good:
+        fail(f"{' '.join(fields)} is not what the columns say: {list_text(n, gates)} and {list_text(n, others)}")
+    check.see(f"dense: column by column: {fields[0]}")
+
+
+def number_numbers(rng):
+    """How many numbers are lent, mostly enough, and what they hold before."""
+    lent = rng.choice((512, 512, 513, 520)) if rng.random() < 0.96 else rng.choice((0, 1, 511, rng.randrange(512)))
+    return lent, rng.choice((0, 1, 2, rng.randrange(3, 10**17)))
+
+
+def random_small_row(check, rng, family):
+    """A small block through the dense comparison and, if it is accepted, through the path sum; now and then damaged, or none."""
+    n, first, second = family(rng)
+    check.see(f"dense: family {family.__name__}")
+    a, b = lent(rng, n, first), lent(rng, n, second)
+    luck = rng.random()
+    if luck < 0.06:
+        bad_a, bad_b = pairs.damaged(rng, ref.record(n, first)), pairs.damaged(rng, ref.record(n, second))
+        a, b = rng.choice(((bad_a, b), (bad_a, b), (a, bad_b), (a, bad_b), (bad_a, bad_b)))
+    elif luck < 0.08:
+        b = ref.record(rng.choice([m for m in range(1, 17) if m != n]), [])
+    elif luck < 0.10:
+        a, b = ref.record(rng.randint(7, 16), first), "="
+    elif luck < 0.13:
+        b = "="
+    numbers = number_numbers(rng)
+    rows = len(check.rows)
+    if isinstance(dense_row(check, numbers, a, b), list):
+        compare_row(check, (3136, 3136, numbers[1]), a, b)
+        check.both.append((rows, rows + 1))
+
+
+def fixed_small_rows(check):
+    """Small blocks at their limits: qubits, H gates, numbers, and what these hold."""
+    equal = ["equal", "0", "0"]
+    for n, h, want in ((4, 60, equal), (5, 60, 9), (3, 60, equal), (3, 61, 14), (7, 57, 14), (7, 58, 9), (6, 58, equal), (6, 59, 9)):
+        for cut in (0, 1, h // 2, h):
+            lists = (ref.record(n, pairs.one(ref.H, *[n - 1] * count)) for count in (cut, h - cut))
+            hold(dense_row(check, (512, 3), *lists), want)
+    for seed in (0, 1, 2, 3, 10**17):
+        for lent_now in (0, 1, 511, 512, 513, 520):
+            for n in (1, 6):
+                fields = dense_row(check, (lent_now, seed), list_text(n, pairs.one(ref.T, n - 1)), list_text(n, []))
+                hold(fields, 10 if lent_now < 512 else ["different", "0", str(1 << n - 1)])
+        hold(dense_row(check, (520, seed), list_text(7, []), "="), 14)
+
+
+def agree(check):
+    """What both comparisons printed for each small block; fails where the path sum decides and the verdicts differ."""
+    for rows in check.both:
+        here, there = (check.printed[str(i)].split(": ")[1].split(",")[0].split() for i in rows)
+        if there[0] == "undecided":
+            check.see(f"dense: undecided there, {here[0]} here")
+        elif here[0] != there[0]:
+            fail(f"{' '.join(here)} by the dense comparison, {' '.join(there)} by the path sum: row\n{check.rows[rows[0]]}")
+        else:
+            check.see(f"dense: both {here[0]}")
+            if here[:3] != there[:3]:
+                check.see("dense: both different, other inputs")
+
+
+def both_line(check):
+    """How the two comparisons stand to each other, in one line."""
+    seen = {name: check.seen[f"dense: {name}"] for name in BOTH}
+    return (
+        f"{len(check.both)} small blocks by both comparisons: {seen['both equal'] + seen['both different']} decided by both, the verdicts agree"
+        f" ({seen['both different, other inputs']} with other inputs); undecided by the path sum, {seen['undecided there, equal here']} equal and"
+        f" {seen['undecided there, different here']} different"
+    )
 
 
 # Records and reports.
@@ -439,6 +567,8 @@ def refused_rows(check, data, number, gate=""):
         compare_row(check, (3136, 3136, 1), first, second)
         hold(check.lines[-1].split(": ")[1].split(",")[0], f"refused {number} {which}{gate}")
         compare_row(check, (3136, 3136, 1), first, second, "pick")
+        dense_row(check, (512, 3), first, second)
+        hold(check.lines[-1].split(": ")[1].split(",")[0], f"refused {number} {which}{gate}")
 
 
 def fixed_refusals(check):
@@ -489,6 +619,7 @@ def main():
     fixed_inputs(check)
     fixed_rows(check)
     fixed_refusals(check)
+    fixed_small_rows(check)
     for _ in range(4000 * times):
         random_pair_row(check, rng, "compare")
     for i in range(2000 * times):
@@ -498,13 +629,17 @@ def main():
         builder_rows(check, rng)
         report_rows(check, rng)
         bad_rows(check, rng)
+    for i in range(3500 * times):
+        random_small_row(check, rng, rng.choice(pairs.SMALL[:-1]) if i % 100 else pairs.small_long)
     check.run_rows()
+    agree(check)
     inputs = 2000 * times
     for i in range(inputs):
         n, first, second = rng.choice(pairs.FAMILIES)(rng)
         data = ref.record(n, first) + ref.record(n, second)
         check.run_program(damaged_input(rng, data) if i % 3 == 0 else data)
     show_classes(check)
+    print(both_line(check))
     print(f"{len(check.rows)} rows and {inputs} random inputs: all agree with the independent implementation")
 
 

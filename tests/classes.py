@@ -49,6 +49,28 @@ PICKS = (
     "first, different",
     "first, undecided",
 )
+SMALL_FAMILIES = ("small_equal", "small_turned", "small_changed", "small_unrelated", "small_phase", "small_open", "small_many_h", "small_long")
+SMALL = (
+    "equal",
+    "different",
+    *(f"power {j}" for j in range(8)),
+    *(f"first differing input {place}" for place in ("0", "1", "in the middle", "the last")),
+    *(f"{n} qubits" for n in range(1, 7)),
+    "no T gate: equal",
+    "no T gate: different",
+    "60 H gates",
+    "64 variables",
+    "512 gates in both lists",
+    "one slice given twice",
+    "bytes behind a record",
+    "512 numbers",
+    "more numbers",
+    *(f"{before}, {after}" for before in ("zeros", "the lowest number", "the highest number", "rubbish") for after in ("accepted", "refused")),
+    "column by column: equal",
+    "column by column: different",
+)
+# a small block through both comparisons
+BOTH = ("both equal", "both different", "both different, other inputs", "undecided there, equal here", "undecided there, different here")
 OF_A_LIST = (1, 2, 3, 4, 13, 5, 6, 7)
 REFUSALS = {
     "check": OF_A_LIST,
@@ -60,6 +82,7 @@ REFUSALS = {
     "read_report": (1, 2, 5),
     "compare": (*OF_A_LIST, 8, 9, 10),
     "pick": (*OF_A_LIST, 8, 9, 10),
+    "dense": (*OF_A_LIST, 8, 9, 14, 10),
     "program": (*OF_A_LIST, 8, 9, 12),
 }
 # the gate that a call is refused at
@@ -108,12 +131,15 @@ CLASSES = (
     *(f"compare: {shape}" for shape in SHAPES),
     *(f"{call}: family {name}" for call in ("compare", "pick") for name in FAMILIES),
     "pick: family worth",
+    *(f"dense: {name}" for name in SMALL),
+    *(f"dense: {name}" for name in BOTH),
+    *(f"dense: family {name}" for name in SMALL_FAMILIES),
     *(f"pick: {choice}" for choice in PICKS),
     *(kind_class(kind) for kind in range(11)),
     *ANSWERS,
     *(f"{call}: refused {k}" for call, numbers in REFUSALS.items() for k in numbers),
     *(f"{call}: refused at {place}" for call, places in BAD_GATES.items() for place in places),
-    *(f"{call}: {fault}" for call in ("compare", "pick") for fault in BAD_LISTS),
+    *(f"{call}: {fault}" for call in ("compare", "pick", "dense") for fault in BAD_LISTS),
     *(f"program: {size} bytes" for size in (3082, 3083, 1000000)),
     *(f"rows of {name}" for name in PROGRAMS),
 )

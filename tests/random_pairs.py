@@ -1,5 +1,5 @@
 """Random lists, pairs of lists and damaged records for the cross-check. Every family takes a generator of random numbers and gives n and two
-lists that an accepted pair may have, unless it says otherwise.
+lists that an accepted pair may have, and those of small blocks an accepted block, unless it says otherwise.
 """
 import reference as ref
 from reference import h_gates
@@ -167,6 +167,102 @@ def worth(rng):
 
 
 FAMILIES = (mixed, diagonal, wide, many_h, long, blocked, few_gates, equal)
+
+
+# Small blocks.
+
+
+def block(rng, n):
+    """A list for a small block."""
+    return random_list(rng, n, rng.choice(KINDS), rng.choice((0, 3, 8, 15, 30)), rng.randint(0, 14))
+
+
+def put_in(rng, gates, more):
+    """The list with more gates put in somewhere."""
+    at = rng.randint(0, len(gates))
+    return gates[:at] + more + gates[at:]
+
+
+def small_equal(rng):
+    """Equal lists, by gates put in that do nothing, often up to a power of ω."""
+    n = rng.randint(1, 6)
+    first = block(rng, n)
+    return n, first, rewritten(rng, n, first, rng.randint(0, 3))
+
+
+def turn(q):
+    """X T X T on a qubit: ω."""
+    return [(k, q, 255) for k in (ref.X, ref.T) * 2]
+
+
+def small_turned(rng):
+    """Equal lists, a power of ω apart."""
+    n = rng.randint(1, 6)
+    first = block(rng, n)
+    return n, first, put_in(rng, rewritten(rng, n, first, rng.randint(0, 1)), turn(rng.randrange(n)) * rng.randint(1, 7))
+
+
+def small_changed(rng):
+    """Lists that one gate tells apart: replaced by another, taken out, or put in."""
+    n = rng.randint(1, 6)
+    first = block(rng, n) or [random_gate(rng, n, ALL)]
+    second = rewritten(rng, n, first, rng.randint(0, 2))
+    at = rng.randrange(len(second))
+    change = rng.randrange(3)
+    if change == 0:
+        return n, first, put_in(rng, second, [random_gate(rng, n, ALL)])
+    return n, first, second[:at] + ([random_gate(rng, n, ALL)] if change == 1 else []) + second[at + 1 :]
+
+
+def small_unrelated(rng):
+    """Lists that have nothing to do with each other; short ones are equal now and then."""
+    n = rng.randint(1, 6)
+    return n, block(rng, n), block(rng, n)
+
+
+def small_phase(rng):
+    """A list with a phase before it, against the same list: the columns of the inputs that have the phase differ."""
+    n = rng.randint(1, 6)
+    qubits = rng.sample(range(n), min(n, 3))
+    phases = [one(rng.choice((ref.T, ref.TI, ref.S, ref.SI, ref.Z)), qubits[0])]
+    if n > 1:
+        phases.append([(ref.CZ, *qubits[:2])])
+    if n > 2:
+        phases.append(doubly_controlled_z(*qubits))
+    base = block(rng, n)
+    return n, phases[-1 if rng.random() < 0.5 else rng.randrange(len(phases))] + base, rewritten(rng, n, base, rng.randint(0, 1))
+
+
+def small_open(rng):
+    """Equal lists, or all but for a gate, that the steps often leave undecided: H, T and CX on two qubits that stay bound to each other."""
+    n = rng.randint(2, 6)
+    a, b = rng.sample(range(n), 2)
+    middle = [*one(ref.H, a, b), *one(rng.choice((ref.T, ref.TI)), a), (ref.CX, b, a), *one(ref.H, b), (ref.CX, b, a), *one(ref.H, a)]
+    first = random_list(rng, n, WITHOUT_H, rng.randint(0, 6), 0) + middle + random_list(rng, n, WITHOUT_H, rng.randint(0, 6), 0)
+    second = rewritten(rng, n, first, rng.randint(0, 2))
+    return n, first, spoilt(rng, n, second) if rng.random() < 0.3 else second
+
+
+def small_many_h(rng):
+    """As many H gates as a small block may have, or one more, which is refused."""
+    n = rng.randint(1, 6)
+    h = min(ref.MOST_HADAMARDS, MOST_VARIABLES - n) + (rng.random() < 0.2)
+    gates = random_list(rng, n, rng.choice((WITHOUT_H, [ref.S, ref.CX, ref.CZ], [ref.T, ref.CX])), rng.randint(0, 20), 0)
+    for _ in range(h):
+        gates = put_in(rng, gates, one(ref.H, rng.randrange(n)))
+    cut = rng.choice((0, len(gates), rng.randint(0, len(gates))))
+    return n, gates[:cut], ref.inverted(gates[cut:])
+
+
+def small_long(rng):
+    """512 gates in both lists: equal, a power of ω apart, or with one gate replaced."""
+    n = rng.choice((1, 5, 6))
+    base = random_list(rng, n, rng.choice((ALL, [ref.T, ref.H, ref.CX, ref.CZ])), MOST_GATES - 4, rng.randint(0, 29))
+    first = base + one(ref.X, *[0] * 4)
+    return n, first, rng.choice((base + one(ref.Y, *[n - 1] * 4), base + turn(0), spoilt(rng, n, first)))
+
+
+SMALL = (small_equal, small_turned, small_changed, small_unrelated, small_phase, small_open, small_many_h, small_long)
 
 
 def bad_gate(rng, n):

@@ -414,10 +414,10 @@ class Columns:
         right = {w: times_root_two(z, self.h1) for w, z in column(self.second, v).items()}
         return {j for j in range(8) if {w: times_omega(z, j) for w, z in left.items()} == right}
 
-    def carry(self, n):
-        """The powers that carry every column."""
+    def carry(self, count):
+        """The powers that carry each of the first so many columns."""
         powers = set(range(8))
-        for v in range(1 << n):
+        for v in range(count):
             powers &= self.fitting(v)
             if not powers:
                 break
