@@ -121,6 +121,7 @@ def try_rows(folder):
     for name, test, row in (
         ("record_calls", "make_rows.py", "5143"),
         ("pair_calls", "make_rows.py", "h0"),
+        ("dense_calls", "make_rows.py", "h0"),
         ("phase_sum_vectors", "phase_sum_rows.py", "QC"),
     ):
         for file, old in (("stdin", row), ("stdout", "1")):
@@ -134,6 +135,8 @@ def try_row_faults(folder):
     gate = "check: second gate bad, 6;check;;51430102000000ff0001ff; => refused 6 gate 1\n"
     body = "check: body one byte short, 13;check;;51430101000000; => refused 13\n"
     pair = "unknown kind;compare;3136 3136 0;5143010000;51430101000b00ff => refused 5 second gate 0\n"
+    small = "dense: different at 6 on 3;dense;512 22;3:k12;3: => different 0 6\n"
+    short = "dense: 511 numbers;dense;511 9;1:t0;1:t0 => refused 10, numbers zero 0 kept 520\n"
     for label, old, new in (
         ("a mistyped gate", row, row.replace(":h0", ":hh")),
         ("a gate without its qubit", row, row.replace(":h0", ":h")),
@@ -149,9 +152,24 @@ def try_row_faults(folder):
         ("another number", body, body.replace("refused 13", "refused 1")),
         ("another list", pair, pair.replace("second", "first")),
         ("no list", pair, pair.replace(" second", "")),
+        ("another verdict of a small block", small, small.replace("different 0 6", "equal 0 0")),
+        ("another first input of a small block", small, small.replace("different 0 6", "different 6 6")),
+        ("another second input of a small block", small, small.replace("different 0 6", "different 0 7")),
+        ("a count behind a small block's inputs", small, small.replace("different 0 6", "different 0 6 0")),
+        ("a number lent too many", short, short.replace(";511 9;", ";512 9;")),
+        ("a number not kept", short, short.replace("kept 520", "kept 519")),
+        ("a number that is zero", short, short.replace("zero 0", "zero 1")),
     ):
         with Fault(folder, "tests/rows.txt", old, new):
             trial(f"make_rows.py, {label}", run_test(folder, "make_rows.py", "--check")[0] != 0)
+
+
+def try_fault(folder, name, label, old, new):
+    """A fault in the independent implementation, which the rows do not bear."""
+    with Fault(folder, f"tests/{name}", old, new):
+        status, lines = run_test(folder, "make_rows.py", "--check")
+        held = status != 0 and "but the independent implementation says" in lines[-1]
+        trial(f"make_rows.py, a reference with {label}", held, lines[-1:])
 
 
 def try_reference_faults(folder):
@@ -167,10 +185,46 @@ def try_reference_faults(folder):
         ("the other list", 'read_list(second, "second")', 'read_list(second, "first")'),
         ("an index for a report", "raise Refused(5)\n    inputs", "raise Refused(5, 0)\n    inputs"),
     ):
-        with Fault(folder, "tests/reference.py", old, new):
-            status, lines = run_test(folder, "make_rows.py", "--check")
-            held = status != 0 and "but the independent implementation says" in lines[-1]
-            trial(f"make_rows.py, a reference with {label}", held, lines[-1:])
+        try_fault(folder, "reference.py", label, old, new)
+
+
+def try_small_faults(folder):
+    """The same of small blocks: limits, order, gates, scaling, powers, and what the numbers hold."""
+    limits = "MOST_HADAMARDS = 512, 6, 60"
+    fourteen = "    if n > MOST_QUBITS or h_gates(gates + others) > MOST_HADAMARDS:\n        raise Refused(14)\n"
+    ten = "    if numbers < NUMBERS:\n        raise Refused(10)\n"
+    both = "left, right = matrix(n, first, h_gates(second)), matrix(n, second, h_gates(first))"
+    for label, old, new in (
+        ("5 qubits at most", limits, "MOST_HADAMARDS = 512, 5, 60"),
+        ("7 qubits at most", limits, "MOST_HADAMARDS = 512, 7, 60"),
+        ("59 H gates at most", limits, "MOST_HADAMARDS = 512, 6, 59"),
+        ("61 H gates at most", limits, "MOST_HADAMARDS = 512, 6, 61"),
+        ("511 numbers enough", limits, "MOST_HADAMARDS = 511, 6, 60"),
+        ("513 numbers wanted", limits, "MOST_HADAMARDS = 513, 6, 60"),
+        ("10 before 14", fourteen + ten, ten + fourteen),
+        ("the first list's H gates alone", "h_gates(gates + others) > MOST_H", "h_gates(gates) > MOST_H"),
+        ("the second list's H gates alone", "h_gates(gates + others) > MOST_H", "h_gates(others) > MOST_H"),
+        ("a Y that is an X", "times_omega(rows[w ^ bit], 2 if one else 6)", "rows[w ^ bit]"),
+        ("an H without its sign", "times_omega(rows[w], 4) if one else rows[w | bit]", "rows[w | bit]"),
+        ("a CX turned round", "rows[w ^ one << b]", "rows[w ^ (w >> b & 1) << a]"),
+        ("a CZ on one qubit", "times_omega(rows[w], 4) if one and w >> b & 1", "times_omega(rows[w], 4) if one"),
+        ("a SWAP that is none", "rows[w ^ bit ^ 1 << b] if one", "rows[w] if one"),
+        ("T for its inverse", "times_omega(rows[w], {Z: 4, S: 2, SI: 6, T: 1, TI: 7}", "times_omega(rows[w], {Z: 4, S: 2, SI: 6, T: 7, TI: 1}"),
+        ("S for its inverse", "times_omega(rows[w], {Z: 4, S: 2, SI: 6,", "times_omega(rows[w], {Z: 4, S: 6, SI: 2,"),
+        ("no root of two", both, "left, right = matrix(n, first, 0), matrix(n, second, 0)"),
+        ("each list's own roots of two", both, both.replace("second))", "first))", 1).replace("h_gates(first))", "h_gates(second))")),
+        ("a power too few", "left, right) for j in range(8)]", "left, right) for j in range(7)]"),
+        ("the powers of the other way", "zip(times_omega(x, j), y)", "zip(x, times_omega(y, 2 * j))"),
+        ("the first column that one power misses", "max(misfits)", "min(misfits)"),
+        ("two inputs alike", '"different", 0, max(misfits)', '"different", max(misfits), max(misfits)'),
+    ):
+        try_fault(folder, "reference.py", label, old, new)
+    for label, old, new in (
+        ("a number not zero", "left(accepted, seed, ref.NUMBERS,", "left(accepted, seed, ref.NUMBERS - 1,"),
+        ("numbers zero after a refusal", "refused(refusal) + lent_numbers(False, seed)", "refused(refusal) + lent_numbers(True, seed)"),
+        ("numbers left after a verdict", "lent_numbers(True, seed)", "lent_numbers(False, seed)"),
+    ):
+        try_fault(folder, "call_rows.py", label, old, new)
 
 
 def try_documents(folder):
@@ -246,10 +300,15 @@ def try_cross_check(folder):
     ):
         ends(f"cross-check, record_calls: {label}", one_row, text)
     left = "sets zero 3136 kept 3200, coeffs zero 3136 kept 3200"
+    lent = "numbers zero 512 kept 520"
     for row, line, others in (
         ("check_gate;1 3 11 0 255;;", "refused 5 gate 3", ("refused 5 gate 4", "refused 5")),
         ("check;;5143010100;", "refused 13", ("refused 1", "refused 13 gate 0")),
         ("compare;0 0 0;5143010000;5143", f"refused 1 second, {left}", (f"refused 1 first, {left}", f"refused 1, {left}")),
+        ("dense;512 0;5143010000;=", f"equal 0 0, {lent}", (f"undecided 0 0, {lent}", f"different 0 0, {lent}", f"equal 0 1, {lent}")),
+        ("dense;512 0;5143010000;=", f"equal 0 0, {lent}", ("equal 0 0, numbers zero 511 kept 520", "equal 0 0, numbers zero 512 kept 519")),
+        ("dense;0 0;5143070000;=", f"refused 14, {lent}", (f"refused 9, {lent}", f"refused 10, {lent}", f"equal 0 0, {lent}")),
+        ("dense;0 0;5143010000;5143", f"refused 1 second, {lent}", (f"refused 1 first, {lent}", f"refused 1, {lent}")),
     ):
         passes(f"cross-check, {line}", one_row, f"echo '0: {line}'; echo 'rows 1'", row)
         for other in others:
@@ -278,9 +337,43 @@ def try_cross_check(folder):
     ends("cross-check, rows that were not run", cross.show_classes, check)
 
 
+def try_agreement(folder):
+    """Two comparisons that differ, and a verdict that the columns do not bear out."""
+
+    def both(here, there):
+        check = cross.Check()
+        check.rows, check.both = ["0;a row", "1;another"], [(0, 1)]
+        check.printed = {"0": f"0: {here}, numbers zero 512 kept 8", "1": f"1: {there}, sets zero 3136 kept 64"}
+        cross.agree(check)
+        return check.seen
+
+    undecided = "undecided 0 0 1 0 0 0 1"
+    for here, there, name in (
+        ("equal 0 0", "equal 0 0 1 1 0 0 0", "both equal"),
+        ("different 0 0", "different 0 0 1 1 0 0 0", "both different"),
+        ("different 0 3", "different 0 4 0 0 0 0 0", "both different, other inputs"),
+        ("equal 0 0", undecided, "undecided there, equal here"),
+        ("different 0 0", undecided, "undecided there, different here"),
+    ):
+        trial(f"agreement, {name}", both(here, there)[f"dense: {name}"] == 1, both(here, there))
+    trial("agreement, the same inputs", "dense: both different, other inputs" not in both("different 0 4", "different 0 4 0 0 0 0 0"))
+    for here, there in (("equal 0 0", "different 0 1 0 0 0 0 0"), ("different 0 1", "equal 0 0 0 0 0 0 0"), ("undecided 0 0", "equal 0 0 0 0 0 0 0")):
+        ends(f"agreement, {here} and {there}", both, here, there)
+    trial("agreement, undecided by both is no class", not set(both("undecided 0 0", undecided)) & set(CLASSES))
+
+    def columns(fields, gates):
+        cross.check_small_columns(cross.Check(), 2, gates, [], fields.split())
+
+    cz, nothing = [(cross.ref.CZ, 0, 1)], []
+    passes("columns, different", columns, "different 0 3", cz)
+    passes("columns, equal", columns, "equal 0 0", nothing)
+    for fields, gates in (("different 0 2", cz), ("different 0 4", cz), ("equal 0 0", cz), ("different 0 0", nothing), ("different 0 3", nothing)):
+        ends(f"columns, {fields} of {len(gates)} gates", columns, fields, gates)
+
+
 def main():
     """Runs everything."""
-    for part in (try_gate, try_cross_check):
+    for part in (try_gate, try_cross_check, try_agreement):
         with tempfile.TemporaryDirectory() as folder:
             part(folder)
     with tempfile.TemporaryDirectory() as folder:
@@ -291,6 +384,7 @@ def main():
         try_rows(folder)
         try_row_faults(folder)
         try_reference_faults(folder)
+        try_small_faults(folder)
         try_documents(folder)
     print(f"gate: {HELD['trials']} trials, {HELD['failed']} failed")
     return 1 if HELD["failed"] else 0
