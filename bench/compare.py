@@ -143,20 +143,20 @@ def timed(command, data):
     return time.perf_counter() - start
 
 
-def same_line(plain, data):
+def same_line(plain, data, engine=ENGINE):
     """What both programs print."""
-    line, other = run([ENGINE], data).stdout, run([plain], data).stdout
+    line, other = run([engine], data).stdout, run([plain], data).stdout
     if line != other:
         sys.exit(f"the engine prints {line!r}, the plain program {other!r}, for {data.hex()}")
     return line
 
 
-def measured(plain, base, datas):
+def measured(plain, base, datas, engine=ENGINE):
     """The means of both programs' instructions over some pairs, and how the pairs came out."""
     ours, theirs, tally = [], [], {"equal": 0, "different": 0, "undecided": 0}
     for data in datas:
-        tally[same_line(plain, data).split()[0].decode()] += 1
-        ours.append(instructions(ENGINE, data) - base[ENGINE])
+        tally[same_line(plain, data, engine).split()[0].decode()] += 1
+        ours.append(instructions(engine, data) - base[engine])
         theirs.append(instructions(plain, data) - base[plain])
     return mean(ours), mean(theirs), tally
 
