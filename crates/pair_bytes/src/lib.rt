@@ -92,6 +92,7 @@ fn were_read(refusal: Refusal) -> bool
         Refusal::Second(_) => false,
         Refusal::QubitsDiffer => true,
         Refusal::TooManyVariables => true,
+        Refusal::BlockTooLarge => true,
         Refusal::WorkspaceShort => true,
     }
 }
