@@ -10,12 +10,12 @@ use Rattle.record_format.specs.Gate.{OneQubit, X, Y, Z, S, S†, T, T†, H, Ga
 use Rattle.record_format.proofs.GateLaws.{inverse-cons, inverse-inverse, within-inverse}
 use Rattle.amplitude.specs.Number.{Zω, neg, ω^, √2^}
 use Rattle.amplitude.specs.Bits.{bit, put}
-use Rattle.amplitude.specs.Matrix.{matrix, entry, times}
+use Rattle.amplitude.specs.Matrix.{matrix, entry, times, row}
 use Rattle.amplitude.specs.Circuit.{State, apply, run, tally, isH, hGates}
 use Rattle.amplitude.proofs.NumberLaws.{+ω-idl, +ω-idr, +ω-invr, +ω-swap, neg-+ω, neg-neg, ω^-add, ω^-four, ω^-eight, mul√2-twice, √2^-add}
 use Rattle.amplitude.proofs.XorLaws.{xor-cancel}
 use Rattle.amplitude.proofs.BitLaws.{bit-put-same, bit-put-other, put-put-same, put-put-other, put-bit}
-use Rattle.amplitude.proofs.Linear.{row, ω^-zero, apply-one, apply-√2^, run-append, hGates-inverse}
+use Rattle.amplitude.proofs.Linear.{ω^-zero, apply-one, apply-√2^, run-append, hGates-inverse}
 
 -- a state at an output, chosen by the output's bit q
 pub by-bit : (q : ℕ) (ψ : State) (w : ℕ) → cond (bit q w) (ψ (put q true w)) (ψ (put q false w)) ≡ ψ w

@@ -10,7 +10,7 @@ use Rattle.record_format.specs.Gate.{OneQubit, X, Y, Z, S, S†, T, T†, H, Ga
 use Rattle.record_format.proofs.GateLaws.{inverse-cons}
 use Rattle.amplitude.specs.Number.{Zω, 0ω, _+ω_, ω^, √2^}
 use Rattle.amplitude.specs.Bits.{bit, put}
-use Rattle.amplitude.specs.Matrix.{Entry, O, ω, Matrix, matrix, entry, times}
+use Rattle.amplitude.specs.Matrix.{Entry, O, ω, Matrix, matrix, entry, times, row}
 use Rattle.amplitude.specs.Circuit.{State, apply, run, tally, isH, isT, hGates, tGates}
 use Rattle.amplitude.proofs.BitLaws.{bit-put-same, put-put-same}
 use Rattle.amplitude.proofs.NumberLaws.{ω^-+ω, ω^-0ω, ω^-comm, √2^-+ω, √2^-0ω, √2^-ω^}
@@ -45,10 +45,6 @@ times-linear f l (ω k) x = sym (l .turn k x)
 pub ω^-zero : (x : Zω) → ω^ 0 x ≡ x
 unfolding ω^
 ω^-zero x = refl
-
--- the row of the output's bit, applied to the numbers at the two values of the input's bit
-abbrev pub row : Matrix → Bool → Zω → Zω → Zω
-row m b x y = times (entry m b false) x +ω times (entry m b true) y
 
 -- a one-qubit gate at the output whose bit q is b: row b on the numbers at both values of bit q
 pub apply-one : (u : OneQubit) (q : ℕ) (ψ : State) (b : Bool) (w : ℕ) →

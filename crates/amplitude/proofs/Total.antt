@@ -15,13 +15,13 @@ use borrow.Author.Tests.{eqb-true, eqb-false, ne-eqb}
 use Rattle.record_format.specs.Gate.{OneQubit, X, Y, Z, S, S†, T, T†, H, Gate, one, two, CX, CZ, SWAP, Within, AllWithin, oneQubitKind}
 use Rattle.amplitude.specs.Number.{Zω, 0ω, 1ω, ω^}
 use Rattle.amplitude.specs.Bits.{bit, put}
-use Rattle.amplitude.specs.Matrix.{matrix, entry, times}
+use Rattle.amplitude.specs.Matrix.{matrix, entry, times, row}
 use Rattle.amplitude.specs.Circuit.{State, basis, apply, run, column, tally, isH, hGates}
 use Rattle.amplitude.proofs.NumberLaws.{+ω-idl, +ω-idr, ω^-four}
 use Rattle.amplitude.proofs.Norm.{norm, norm-ω^, norm-parallelogram, norm-0ω, norm-1ω}
 use Rattle.amplitude.proofs.XorLaws.{xor-comm, xor-cancel}
 use Rattle.amplitude.proofs.BitLaws.{digit-below, double-half, double-rest, bit-put-same, bit-put-other, put-put-same, put-put-other}
-use Rattle.amplitude.proofs.Linear.{row, ω^-zero, apply-one}
+use Rattle.amplitude.proofs.Linear.{ω^-zero, apply-one}
 
 -- the sum of f over the numbers below 2^n
 unfoldable pub total : ℕ → (ℕ → ℕ) → ℕ

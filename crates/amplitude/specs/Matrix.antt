@@ -3,7 +3,7 @@
 use Prim.Native.Nat.{ℕ}
 use mathlib.Core.Bool.{Bool, true, false}
 use Rattle.record_format.specs.Gate.{OneQubit, X, Y, Z, S, S†, T, T†, H}
-use Rattle.amplitude.specs.Number.{Zω, 0ω, ω^}
+use Rattle.amplitude.specs.Number.{Zω, 0ω, _+ω_, ω^}
 
 -- an entry: O is 0, ω k is the k-th power of ω
 pub data Entry : Type 0 where
@@ -43,3 +43,7 @@ entry m true true = m .entry₁₁
 unfoldable pub times : Entry → Zω → Zω
 times O z = 0ω
 times (ω k) z = ω^ k z
+
+-- a row of a matrix, that of the output's bit, on the numbers at the two values of the input's bit
+abbrev pub row : Matrix → Bool → Zω → Zω → Zω
+row m b x y = times (entry m b false) x +ω times (entry m b true) y

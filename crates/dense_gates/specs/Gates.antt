@@ -7,8 +7,8 @@ use lib.Dec.{eqb}
 use lib.ListN.{getD}
 use lib.IntN.{ℤ}
 use Rattle.record_format.specs.Gate.{OneQubit, H, oneQubitKinds}
-use Rattle.amplitude.specs.Number.{Zω, _+ω_}
-use Rattle.amplitude.specs.Matrix.{Entry, O, ω, matrix, entry, times}
+use Rattle.amplitude.specs.Number.{Zω}
+use Rattle.amplitude.specs.Matrix.{Entry, O, ω, matrix, row}
 use Rattle.dense_columns.specs.Columns.{amplitudeAt, stored}
 
 -- the entry that a number of the table stands for: a power of ω, or 8 for 0
@@ -19,9 +19,9 @@ entryOf e = cond (eqb e 8) O (ω e)
 abbrev pub gateOfKind : ℕ → OneQubit
 gateOfKind k = getD oneQubitKinds k H
 
--- a row of a matrix on the two amplitudes of a pair
+-- a row of the matrix of a gate on the two amplitudes of a pair
 unfoldable pub rowTimes : OneQubit → Bool → Zω → Zω → Zω
-rowTimes u row x y = times (entry (matrix u) row false) x +ω times (entry (matrix u) row true) y
+rowTimes u b x y = row (matrix u) b x y
 
 -- a pair of places with its amplitudes replaced by what the matrix makes of them
 unfoldable pub pairTimes : OneQubit → ℕ → ℕ → List ℤ → List ℤ

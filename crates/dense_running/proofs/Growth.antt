@@ -9,19 +9,15 @@ use native.Mathlib.Nat.{add-zero, zero-add, add-assoc}
 use native.Mathlib.Numerals.{add-one}
 use lib.Dec.{eqb}
 use Rattle.record_format.specs.Gate.{OneQubit, X, Y, Z, S, S†, T, T†, H, Gate, one, two, CX, CZ, SWAP, Within, AllWithin}
-use Rattle.amplitude.specs.Number.{Zω, 0ω, 1ω, _+ω_, ω^}
+use Rattle.amplitude.specs.Number.{Zω, 0ω, 1ω, ω^}
 use Rattle.amplitude.specs.Bits.{bit, put}
-use Rattle.amplitude.specs.Matrix.{O, matrix, entry, times}
+use Rattle.amplitude.specs.Matrix.{O, matrix, entry, times, row}
 use Rattle.amplitude.specs.Circuit.{State, basis, apply, run, column, tally, isH, hGates}
 use Rattle.amplitude.proofs.NumberLaws.{+ω-idl, +ω-idr}
 use Rattle.amplitude.proofs.BitLaws.{put-below}
 use Rattle.dense_numbers.specs.Numbers.{Sized}
 use Rattle.dense_numbers.proofs.Sizes.{sized-sum, sized-times, sized-ω^, sized-0ω, sized-1ω}
 use Rattle.dense_columns.specs.Columns.{AllSized}
-
--- what a row of a matrix makes of two numbers
-abbrev rowOf : OneQubit → Bool → Zω → Zω → Zω
-rowOf u b x y = times (entry (matrix u) b false) x +ω times (entry (matrix u) b true) y
 
 -- each row of the matrix has an entry 0
 Lone : OneQubit → Type 0
@@ -39,16 +35,16 @@ straight u p q false = inr p
 straight u p q true = inl q
 
 -- such a matrix keeps the bound
-lone-sized : (u : OneQubit) → Lone u → (b : Bool) (k : ℕ) (x y : Zω) → Sized k x → Sized k y → Sized (k + 0) (rowOf u b x y)
+lone-sized : (u : OneQubit) → Lone u → (b : Bool) (k : ℕ) (x y : Zω) → Sized k x → Sized k y → Sized (k + 0) (row (matrix u) b x y)
 unfolding Lone
 lone-sized u lone b k x y s t = rw (add-zero k) (go (lone b))
   where
-    go : (entry (matrix u) b false ≡ O) ⊎ (entry (matrix u) b true ≡ O) → Sized k (rowOf u b x y)
+    go : (entry (matrix u) b false ≡ O) ⊎ (entry (matrix u) b true ≡ O) → Sized k (row (matrix u) b x y)
     go (inl h) = unfold times in rw (h, +ω-idl) (sized-times (entry (matrix u) b true) k y t)
     go (inr h) = unfold times in rw (h, +ω-idr) (sized-times (entry (matrix u) b false) k x s)
 
 -- a row of any one-qubit matrix
-row-sized : (u : OneQubit) (q : ℕ) (b : Bool) (k : ℕ) (x y : Zω) → Sized k x → Sized k y → Sized (k + isH (one u q)) (rowOf u b x y)
+row-sized : (u : OneQubit) (q : ℕ) (b : Bool) (k : ℕ) (x y : Zω) → Sized k x → Sized k y → Sized (k + isH (one u q)) (row (matrix u) b x y)
 unfolding entry matrix
 row-sized X q = lone-sized X (crossed X refl refl)
 row-sized Y q = lone-sized Y (crossed Y refl refl)
