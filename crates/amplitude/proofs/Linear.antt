@@ -10,7 +10,7 @@ use Rattle.record_format.specs.Gate.{OneQubit, X, Y, Z, S, S†, T, T†, H, Ga
 use Rattle.record_format.proofs.GateLaws.{inverse-cons}
 use Rattle.amplitude.specs.Number.{Zω, 0ω, _+ω_, ω^, √2^}
 use Rattle.amplitude.specs.Bits.{bit, put}
-use Rattle.amplitude.specs.Matrix.{Entry, O, ω, Matrix, matrix, entry, times, row}
+use Rattle.amplitude.specs.Matrix.{Entry, O, ω, matrix, times, row}
 use Rattle.amplitude.specs.Circuit.{State, apply, run, tally, isH, isT, hGates, tGates}
 use Rattle.amplitude.proofs.BitLaws.{bit-put-same, put-put-same}
 use Rattle.amplitude.proofs.NumberLaws.{ω^-+ω, ω^-0ω, ω^-comm, √2^-+ω, √2^-0ω, √2^-ω^}

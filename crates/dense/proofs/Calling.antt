@@ -1,9 +1,7 @@
 -- What the checks found makes a block, and what is said of it is what the definition says.
 -- Assumes nothing.
 use mathlib.Core.Path.{_≡_, sym, ap, _∙_}
-use Prim.Native.Nat.{ℕ, _+_, _*_, _%_}
-use native.Mathlib.Omega.{arith}
-use mathlib.Core.Option.{none}
+use Prim.Native.Nat.{ℕ, _*_, _%_}
 use mathlib.Core.List.{List}
 use lib.ListN.{length, take, drop}
 use Rattle.record_format.specs.Format.{headSize, gateSize}

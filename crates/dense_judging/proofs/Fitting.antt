@@ -3,13 +3,13 @@
 use mathlib.Core.Path.{_≡_, sym, _∙_, ap}
 use mathlib.Core.Bool.{true, false, false≢true}
 use mathlib.Core.List.{List}
-use Prim.Native.Nat.{ℕ, zero, suc, _+_, _<_, _≤_}
+use Prim.Native.Nat.{ℕ, zero, suc, _+_, _<_}
 use native.Mathlib.Omega.{arith}
 use lib.IntN.{ℤ}
-use Rattle.record_format.specs.Gate.{Gate, AllWithin}
+use Rattle.record_format.specs.Gate.{Gate}
 use Rattle.record_format.specs.Reading.{gatesIn}
-use Rattle.amplitude.specs.Number.{ω^, √2^}
-use Rattle.amplitude.specs.Circuit.{State, column, hGates, Fits}
+use Rattle.amplitude.specs.Number.{ω^}
+use Rattle.amplitude.specs.Circuit.{column, hGates, Fits}
 use Rattle.amplitude.specs.Testing.{carriesState, scaledColumn}
 use Rattle.amplitude.proofs.Testing.{carries-true, carries-pass}
 use Rattle.dense_numbers.specs.Numbers.{mostDoublings}

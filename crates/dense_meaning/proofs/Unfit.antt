@@ -5,7 +5,7 @@ use mathlib.Core.Logic.{_↔_}
 use mathlib.Core.Bool.{Bool, true, false, not, false≢true}
 use mathlib.Core.List.{List}
 use mathlib.Core.Option.{none, some}
-use Prim.Native.Nat.{ℕ, suc, _%_, _^_, _<_, _≤_}
+use Prim.Native.Nat.{ℕ, suc, _%_, _^_, _<_}
 use native.Mathlib.Omega.{arith}
 use lib.Pow.{pow-pos}
 use Rattle.record_format.specs.Gate.{Gate, AllWithin}
@@ -14,9 +14,9 @@ use Rattle.amplitude.specs.Testing.{fitsColumn}
 use Rattle.amplitude.proofs.NumberLaws.{ω^-cong}
 use Rattle.amplitude.proofs.Testing.{below-true, below-pass, fits-tested}
 use Rattle.amplitude.proofs.Bridge.{fits-unique}
-use Rattle.dense_meaning.specs.Columns.{powers, someOf, fitsUpTo, unfit, firstUnfit}
+use Rattle.dense_meaning.specs.Columns.{fitsUpTo, unfit, firstUnfit}
 use Rattle.dense_meaning.specs.Demands.{FitsUpTo, SomeFitsUpTo}
-use Rattle.dense_meaning.proofs.Searching.{some-power, below-none, First, below-some}
+use Rattle.dense_meaning.proofs.Searching.{some-power, below-none, below-some}
 
 module _ (n : ℕ) (first second : List Gate) where
   -- the test up to v passes exactly where the power fits all columns up to it

@@ -12,7 +12,7 @@ use Rattle.record_format.specs.Reading.{raws, recordRows, allGateRows, read}
 use Rattle.amplitude.specs.Circuit.{tally}
 use Rattle.comparison_meaning.specs.Verdict.{equal, different}
 use Rattle.comparison_types.specs.Call.{PairFault, ofPair, pairFault}
-use Rattle.dense_types.specs.Call.{Found, found, says, refuses, blockRows, leftBy}
+use Rattle.dense_types.specs.Call.{found, says, refuses, blockRows, leftBy}
 
 -- the bytes of so many H gates
 hadamards : ℕ → List ℕ

@@ -1,8 +1,8 @@
 -- The contract's clauses on the answer, from what the answer says: the theorems of dense_meaning, and for `agrees` those of the path sums.
 -- Assumes nothing.
 use mathlib.Core.Path.{_≡_, refl, sym, ap, _∙_}
-use mathlib.Core.Logic.{_↔_, _⊎_, inl, inr}
-use Prim.Native.Nat.{ℕ, _^_, _<_}
+use mathlib.Core.Logic.{_⊎_, inl, inr}
+use Prim.Native.Nat.{ℕ}
 use native.Mathlib.Omega.{arith}
 use lib.Pow.{pow-pos}
 use mathlib.Core.Option.{Option, none, some, Option·none-ne-some}
@@ -11,15 +11,13 @@ use Rattle.record_format.specs.Gate.{Gate, AllWithin}
 use Rattle.record_format.specs.Reading.{accepted, read, qubits, gates}
 use Rattle.record_format.proofs.Rows.{none-holds}
 use Rattle.record_format.proofs.Theorems.{passed, accepted-is-sound}
-use Rattle.amplitude.specs.Circuit.{Fits}
-use Rattle.comparison_meaning.specs.Verdict.{Verdict, Result, equal, different, undecided, compare}
-use Rattle.comparison_meaning.specs.Demands.{Accepted, SomePower, EqualIsRight, DifferentIsRight}
+use Rattle.comparison_meaning.specs.Verdict.{Verdict, Result, equal, different, undecided}
+use Rattle.comparison_meaning.specs.Demands.{SomePower, EqualIsRight, DifferentIsRight}
 use Rattle.comparison_meaning.proofs.Theorems.{equal-is-right, different-is-right}
 use Rattle.comparison_types.specs.Call as pair
 use Rattle.comparison_types.proofs.Theorems.{first-accepted, second-accepted, same-qubits, pair-accepted-by-no-row}
 use Rattle.comparison_types.specs.Promises.{pairTable}
 use Rattle.dense_meaning.specs.Columns.{firstUnfit}
-use Rattle.dense_meaning.specs.Demands.{FitsUpTo, SomeFitsUpTo}
 use Rattle.dense_meaning.proofs.Theorems.{none-if-carried, shown-is-first, shown-is-unfit}
 use Rattle.dense_types.specs.Call.{Found, found, says, compareColumns, foundOf, saidOf, denseComparison}
 use Rattle.dense_types.specs.Clauses.{ExactlyDecided, ShownApart, ShownFirst, ShownIfDifferent, ForFound, Exact, Sound, First, Inputs, Agrees}

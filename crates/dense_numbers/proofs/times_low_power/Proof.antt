@@ -5,7 +5,7 @@ use native.Mathlib.Omega.{arith}
 use borrow.Author.Needs.{needs}
 use Rattle.amplitude.specs.Number.{mulω, ω^}
 use Rattle.dense_numbers.proofs.Sizes.{sized-mulω}
-use Rattle.dense_numbers.specs.Numbers.{number, mostDoublings}
+use Rattle.dense_numbers.specs.Numbers.{mostDoublings}
 use Rattle.dense_numbers.proofs.times_low_power.Statement.{statement}
 use Rattle.dense_numbers.proofs.times_low_power.Tie as tie
 
