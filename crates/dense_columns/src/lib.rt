@@ -50,6 +50,17 @@ pub fn exchange(column: &mut [i64], low: usize, high: usize)
     store(column, high, x);
 }
 
+// The amplitudes of two places exchanged, that which comes to the first times ω^b and the other times ω^c.
+pub fn cross(column: &mut [i64], low: usize, high: usize, b: u8, c: u8)
+    requires { ⌜ (b < 8) × (c < 8) × (4 * low + 4 ≤ length (now column)) × (4 * high + 4 ≤ length (now column)) × Sized mostDoublings (amplitudeAt (now column) low) × Sized mostDoublings (amplitudeAt (now column) high) ⌝ }
+    ensures { λ _. ⌜ now (column .exit) ≡ stored (stored (now (column .entry)) low (ω^ b (amplitudeAt (now (column .entry)) high))) high (ω^ c (amplitudeAt (now (column .entry)) low)) ⌝ }
+{
+    let x = load(column, low);
+    let y = load(column, high);
+    store(column, low, times_power(y, b));
+    store(column, high, times_power(x, c));
+}
+
 // The amplitude at place w times ω^k.
 pub fn turn(column: &mut [i64], w: usize, k: u8)
     requires { ⌜ (k < 8) × (4 * w + 4 ≤ length (now column)) × Sized mostDoublings (amplitudeAt (now column) w) ⌝ }

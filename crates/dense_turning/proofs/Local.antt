@@ -2,7 +2,7 @@
 -- Assumes nothing.
 use mathlib.Core.Path.{_≡_, refl, _∙_, ap}
 use mathlib.Core.Logic.{_≢_}
-use mathlib.Core.Bool.{Bool, false, xor}
+use mathlib.Core.Bool.{Bool, true, false, xor}
 use Prim.Native.Nat.{ℕ, _^_, _<_}
 use Rattle.record_format.specs.Gate.{two, CX, SWAP}
 use Rattle.amplitude.specs.Bits.{bit, put}
@@ -10,12 +10,18 @@ use Rattle.amplitude.specs.Circuit.{apply}
 use Rattle.amplitude.proofs.BitLaws.{put-put-same, put-put-other, put-below}
 use Rattle.dense_columns.specs.Columns.{itself}
 use Rattle.dense_columns.proofs.Passes.{Local}
-use Rattle.dense_turning.specs.Turns.{turnedWhere}
+use Rattle.dense_turning.specs.Turns.{turnedWhere, crossed}
 
 -- turns: each place
 pub turned-local : (n a b k : ℕ) → Local n itself (turnedWhere a b k)
 unfolding turnedWhere
 turned-local n a b k φ ψ w l same = rw (same w l refl)
+
+-- exchanges with turns: pairs along the qubit
+pub crossed-local : (n q b c : ℕ) → q < n → Local n (put q false) (crossed q b c)
+unfolding crossed
+crossed-local n q b c qn φ ψ w l same =
+    rw (same (put q false w) (put-below n q false w qn l) (put-put-same q false false w), same (put q true w) (put-below n q true w qn l) (put-put-same q false true w))
 
 -- CX: pairs along its target
 pub cx-local : (n a b : ℕ) → b < n → Local n (put b false) (apply (two CX a b))

@@ -17,7 +17,7 @@ use Rattle.dense_columns.specs.Columns.{amplitudeAt, stored, Turned, itself}
 use Rattle.dense_columns.proofs.Places.{length-stored, stored-same, stored-other}
 use Rattle.dense_columns.proofs.Passes.{point-turned, point-kept}
 use Rattle.dense_columns.proofs.Pairs.{put-own, pair-turned}
-use Rattle.dense_turning.specs.Turns.{turnedWhere}
+use Rattle.dense_turning.specs.Turns.{turnedWhere, crossed}
 use Rattle.dense_turning.proofs.Local.{lowest, lowest-put}
 
 -- a place where both bits are 1 is turned
@@ -32,6 +32,18 @@ first-kept n a b k w xs p = point-kept n w (turnedWhere a b k) xs (unfold turned
 -- and so is one where the first is 1 and the second 0
 pub second-kept : (n a b k w : ℕ) (xs : List ℤ) → bit a w ≡ true → bit b w ≡ false → Turned n itself (turnedWhere a b k) w xs xs
 second-kept n a b k w xs p q = point-kept n w (turnedWhere a b k) xs (unfold turnedWhere in rw (p, q))
+
+-- a pair is exchanged and turned
+pub crossed-turned : (n q b c w high : ℕ) (xs : List ℤ) → q < n → w < 2 ^ n → 4 * 2 ^ n ≤ length xs → bit q w ≡ false → high ≡ put q true w →
+    Turned n (put q false) (crossed q b c) w xs (stored (stored xs w (ω^ b (amplitudeAt xs high))) high (ω^ c (amplitudeAt xs w)))
+crossed-turned n q b c w high xs qn wn room low e =
+    rw e (pair-turned n q w (crossed q b c) (ω^ b (amplitudeAt xs (put q true w))) (ω^ c (amplitudeAt xs w)) xs qn wn room low at-low at-high)
+  where
+    at-low : ω^ b (amplitudeAt xs (put q true w)) ≡ crossed q b c (amplitudeAt xs) w
+    at-low = unfold crossed in rw low
+
+    at-high : ω^ c (amplitudeAt xs w) ≡ crossed q b c (amplitudeAt xs) (put q true w)
+    at-high = unfold crossed in rw (bit-put-same q true w, put-put-same q false true w, put-own q false w low)
 
 -- where the control is 0, CX leaves the pair as it is
 pub cx-kept : (n a b w : ℕ) (xs : List ℤ) → a ≢ b → bit a w ≡ false → Turned n (put b false) (apply (two CX a b)) w xs xs

@@ -1,4 +1,4 @@
--- `dense_gates::apply_matrix` meets its contract: after w turns every pair whose lower place is below w is done, and no other.
+-- `dense_turning::cross_along` meets its contract: after w turns every pair whose lower place is below w is done, and no other.
 -- Assumes nothing.
 use mathlib.Core.Path.{_≡_, refl, _∙_}
 use mathlib.Core.Bool.{false}
@@ -6,24 +6,22 @@ use Prim.Native.Nat.{_^_, _-_, _≤_}
 use native.Mathlib.Omega.{arith}
 use borrow.Author.Needs.{needs}
 use lib.ListN.{length}
-use Rattle.record_format.specs.Gate.{one}
 use Rattle.amplitude.specs.Bits.{put}
-use Rattle.amplitude.specs.Circuit.{apply}
 use Rattle.amplitude.proofs.BitLaws.{put-below}
 use Rattle.dense_columns.specs.Columns.{amplitudeAt}
 use Rattle.dense_columns.proofs.Places.{few-places}
 use Rattle.dense_columns.proofs.Passes.{Passed, pass-start, pass-turn, pass-end}
-use Rattle.dense_gates.specs.Gates.{gateOfKind}
-use Rattle.dense_gates.proofs.Turns.{one-local}
-use Rattle.dense_gates.proofs.apply_matrix.Statement.{statement}
-use Rattle.dense_gates.proofs.apply_matrix.Tie as tie
+use Rattle.dense_turning.specs.Turns.{crossed}
+use Rattle.dense_turning.proofs.Local.{crossed-local}
+use Rattle.dense_turning.proofs.cross_along.Statement.{statement}
+use Rattle.dense_turning.proofs.cross_along.Tie as tie
 
 abbrev Inv-loop : tie.InvT-loop
-Inv-loop column₀ n kind q end w₀ column w =
-    (w ≤ 2 ^ n) × (length column ≡ length column₀) × Passed n (put q false) (apply (one (gateOfKind kind) q)) (amplitudeAt column₀) w column
+Inv-loop column₀ n q b c end w₀ column w =
+    (w ≤ 2 ^ n) × (length column ≡ length column₀) × Passed n (put q false) (crossed q b c) (amplitudeAt column₀) w column
 
 abbrev μ-loop : tie.MeasureT-loop
-μ-loop column₀ n kind q end w₀ column w = 2 ^ n - w
+μ-loop column₀ n q b c end w₀ column w = 2 ^ n - w
 
 power-requires : tie.Need-power-requires Inv-loop μ-loop
 power-requires c κs = search needs
@@ -31,17 +29,17 @@ power-requires c κs = search needs
 loop-holds : tie.Need-loop-holds Inv-loop μ-loop
 loop-holds c = (omega arith, refl, pass-start _ _ _ _)
 
-apply-matrix-at-requires : tie.Need-apply-matrix-at-requires Inv-loop μ-loop
-apply-matrix-at-requires c κs =
+cross-at-requires : tie.Need-cross-at-requires Inv-loop μ-loop
+cross-at-requires c κs =
     let s = c .before .before .before .before in
     let l = c .before .before .loop in
-    (s .pre .0, s .pre .1, s .pre .2, omega (arith, c .before .before .before .power .ensures), omega (arith, l .inv .1), λ u b e. rw (l .inv .2 .left u b (omega arith)) (s .pre .4 u b))
+    (s .pre .0, s .pre .1, s .pre .2, s .pre .3, omega (arith, c .before .before .before .power .ensures), omega (arith, l .inv .1), λ u b e. rw (l .inv .2 .left u b (omega arith)) (s .pre .5 u b))
 
 add-w : tie.Need-add-w Inv-loop μ-loop
 add-w c =
     let at-power = c .before .before .before .before .before in
     let s = at-power .before in
-    record { fits = omega (arith, few-places (s .args .n) (s .pre .2), at-power .power .ensures) }
+    record { fits = omega (arith, few-places (s .args .n) (s .pre .1), at-power .power .ensures) }
 
 loop-less : tie.Need-loop-less Inv-loop μ-loop
 loop-less c = omega (arith, c .before .before .before .before .before .power .ensures)
@@ -53,9 +51,9 @@ loop-again c =
     let s = at-loop .before .before in
     let l = at-loop .loop in (
       omega (arith, at-loop .before .power .ensures),
-      turn .apply-matrix-at .kept .0 ∙ l .inv .1,
-      pass-turn (s .args .n) (put (s .args .q) false) (apply (one (gateOfKind (s .args .kind)) (s .args .q))) (amplitudeAt (s .args .column .now)) (l .w) (l .column) (turn .apply-matrix-at .last .0)
-          (one-local (s .args .n) (s .args .q) (gateOfKind (s .args .kind)) (s .pre .1)) (l .inv .2) (turn .apply-matrix-at .ensures),
+      turn .cross-at .kept .0 ∙ l .inv .1,
+      pass-turn (s .args .n) (put (s .args .q) false) (crossed (s .args .q) (s .args .b) (s .args .c)) (amplitudeAt (s .args .column .now)) (l .w) (l .column) (turn .cross-at .last .0)
+          (crossed-local (s .args .n) (s .args .q) (s .args .b) (s .args .c) (s .pre .0)) (l .inv .2) (turn .cross-at .ensures),
     )
 
 same-length : tie.Need-same-length Inv-loop μ-loop
@@ -66,18 +64,18 @@ returns c =
     let s = c .before .before .before in
     let l = c .before .loop in
     let e : l .w ≡ 2 ^ s .args .n = omega (arith, c .before .before .power .ensures) in
-    pass-end (s .args .n) (put (s .args .q) false) (apply (one (gateOfKind (s .args .kind)) (s .args .q))) (amplitudeAt (s .args .column .now)) (l .column)
-    (λ u b. put-below (s .args .n) (s .args .q) false u (s .pre .1) b) (rw e at (l .inv .2))
+    pass-end (s .args .n) (put (s .args .q) false) (crossed (s .args .q) (s .args .b) (s .args .c)) (amplitudeAt (s .args .column .now)) (l .column)
+    (λ u b. put-below (s .args .n) (s .args .q) false u (s .pre .0) b) (rw e at (l .inv .2))
 
-pub apply-matrix-spec : {M : Type 1} → statement M
-apply-matrix-spec =
+pub cross-along-spec : {M : Type 1} → statement M
+cross-along-spec =
     tie.close
     (tie.spec
     Inv-loop
     μ-loop
     power-requires
     loop-holds
-    apply-matrix-at-requires
+    cross-at-requires
     add-w
     loop-less
     loop-again

@@ -1,4 +1,4 @@
--- `dense_gates::apply_matrix_at` meets its contract: at the lower place of a pair the matrix is applied to both, elsewhere nothing is done.
+-- `dense_turning::cross_at` meets its contract: at the lower place of a pair both are exchanged and turned, elsewhere nothing is done.
 -- Assumes nothing.
 use mathlib.Core.Path.{_≡_, sym, _∙_}
 use mathlib.Core.Bool.{true, false}
@@ -8,9 +8,9 @@ use Rattle.amplitude.specs.Bits.{bit, put}
 use Rattle.amplitude.proofs.BitLaws.{put-below, put-put-same}
 use Rattle.dense_columns.proofs.Places.{few-places}
 use Rattle.dense_columns.proofs.Pairs.{put-own, upper-is, none-turned}
-use Rattle.dense_gates.proofs.Turns.{one-turned}
-use Rattle.dense_gates.proofs.apply_matrix_at.Statement.{statement}
-use Rattle.dense_gates.proofs.apply_matrix_at.Tie as tie
+use Rattle.dense_turning.proofs.Turns.{crossed-turned}
+use Rattle.dense_turning.proofs.cross_at.Statement.{statement}
+use Rattle.dense_turning.proofs.cross_at.Tie as tie
 
 has-bit-requires : tie.Need-has-bit-requires
 has-bit-requires c κs = search needs
@@ -23,24 +23,25 @@ returns c =
 power-requires : tie.Need-power-requires
 power-requires c κs = search needs
 
-add-apply-pair : tie.Need-add-apply-pair
-add-apply-pair c =
+add-cross : tie.Need-add-cross
+add-cross c =
     let s = c .before .before .before .before in
     record { fits = omega (arith, c .power .ensures, few-places (s .args .q) (omega arith), few-places (s .args .n) (omega arith)) }
 
-apply-pair-requires : tie.Need-apply-pair-requires
-apply-pair-requires c κs =
+cross-requires : tie.Need-cross-requires
+cross-requires c κs =
     let tested = c .before .before in
     let s = tested .before .before in
     let low : bit (s .args .q) (s .args .w) ≡ false = sym (tested .before .has-bit .ensures) ∙ tested .if1 .left in
     let own = put-own (s .args .q) false (s .args .w) low in
     let high = upper-is (s .args .q) (s .args .w) (c .power .result) low (c .power .ensures) in
-    let top = put-below (s .args .n) (s .args .q) true (s .args .w) (s .pre .1) (s .pre .3) in (
-      s .pre .0,
+    let top = put-below (s .args .n) (s .args .q) true (s .args .w) (s .pre .0) (s .pre .4) in (
+      s .pre .2,
+      s .pre .3,
       omega arith,
       omega (arith, high, top),
-      s .pre .5 (s .args .w) (s .pre .3) own,
-      rw high (s .pre .5 (put (s .args .q) true (s .args .w)) top (put-put-same (s .args .q) false true (s .args .w) ∙ own)),
+      s .pre .6 (s .args .w) (s .pre .4) own,
+      rw high (s .pre .6 (put (s .args .q) true (s .args .w)) top (put-put-same (s .args .q) false true (s .args .w) ∙ own)),
     )
 
 same-length : tie.Need-same-length
@@ -52,18 +53,18 @@ returns-2 c =
     let tested = at-power .before .before in
     let s = tested .before .before in
     let low : bit (s .args .q) (s .args .w) ≡ false = sym (tested .before .has-bit .ensures) ∙ tested .if1 .left in
-    rw (c .before .apply-pair .ensures)
-    (one-turned (s .args .n) (s .args .q) (s .args .w) _ _ (s .args .column .now) (s .pre .1) (s .pre .3) (s .pre .4) low
+    rw (c .before .cross .ensures)
+    (crossed-turned (s .args .n) (s .args .q) (s .args .b) (s .args .c) (s .args .w) _ (s .args .column .now) (s .pre .0) (s .pre .4) (s .pre .5) low
     (upper-is (s .args .q) (s .args .w) (at-power .power .result) low (at-power .power .ensures)))
 
-pub apply-matrix-at-spec : {M : Type 1} → statement M
-apply-matrix-at-spec =
+pub cross-at-spec : {M : Type 1} → statement M
+cross-at-spec =
     tie.close
     (tie.spec
     has-bit-requires
     returns
     power-requires
-    add-apply-pair
-    apply-pair-requires
+    add-cross
+    cross-requires
     same-length
     returns-2)
