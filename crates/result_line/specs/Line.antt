@@ -3,18 +3,12 @@
 use Prim.Native.Nat.{ℕ}
 use mathlib.Core.Bool.{Bool, cond}
 use mathlib.Core.List.{List, [], _∷_}
-use Rattle.comparison_meaning.specs.Verdict.{Verdict, equal, different, undecided}
 use Rattle.comparison_types.specs.Call.{Said, says, refuses, numberIn, resultOf}
 use Rattle.comparison_types.specs.declared.Answer.{Answer}
 use Rattle.comparison_types.specs.declared.Answer.the-variants.{Compared, Refused}
 use Rattle.line_bytes.specs.Line.{lineWith, refusedLine}
 use Rattle.pair_bytes.specs.Number.{refusedBy}
-
--- the verdict's word: `equal`, `different`, `undecided`
-abbrev pub verdictWord : Verdict → List ℕ
-verdictWord equal = 101 ∷ 113 ∷ 117 ∷ 97 ∷ 108 ∷ []
-verdictWord different = 100 ∷ 105 ∷ 102 ∷ 102 ∷ 101 ∷ 114 ∷ 101 ∷ 110 ∷ 116 ∷ []
-verdictWord undecided = 117 ∷ 110 ∷ 100 ∷ 101 ∷ 99 ∷ 105 ∷ 100 ∷ 101 ∷ 100 ∷ []
+use Rattle.verdict_line.specs.Word.{verdictWord}
 
 -- the line of what a comparison says: the verdict, the two inputs and the five counts, or that of the refusal's number; neither the list
 -- nor the gate's index is shown

@@ -1,30 +1,15 @@
 // The line that the program prints: document 01, "Pairs to try". The verdict's word and seven numbers, or `refused` and the number, as
 // bytes at the front of a lent buffer. write_answer has no `requires`.
-ghost use Prim.Native.Nat.{_≤_};
-ghost use lib.ListN.{length};
-ghost use Rattle.comparison_types.specs.Call.{resultOf, verdictOf, says};
-ghost use Rattle.line_bytes.specs.Line.{lineWith, AtFront};
-ghost use Rattle.result_line.specs.Line.{verdictWord, lineOf, programLine};
+ghost use Rattle.comparison_types.specs.Call.{resultOf, says};
+ghost use Rattle.line_bytes.specs.Line.{AtFront};
+ghost use Rattle.result_line.specs.Line.{lineOf, programLine};
 use comparison::Answer;
 use comparison::Outcome;
-use comparison::Verdict;
 use line_bytes::LINE_SIZE;
-use line_bytes::put_line;
 use line_bytes::write_refusal;
 use pair_bytes::BYTES_FOLLOW;
 use pair_bytes::refused_by;
-
-// The line of a verdict's word and some numbers.
-pub fn write_verdict(verdict: Verdict, numbers: &[u16], line: &mut [u8; LINE_SIZE]) -> usize
-    requires { ⌜ length (now numbers) ≤ 7 ⌝ }
-    ensures { λ r. ⌜ AtFront (lineWith (verdictWord (verdictOf verdict)) (now (numbers .entry))) (now (line .entry)) r (now (line .exit)) ⌝ }
-{
-    match verdict {
-        Verdict::Equal => put_line(line, b"equal", numbers),
-        Verdict::Different => put_line(line, b"different", numbers),
-        Verdict::Undecided => put_line(line, b"undecided", numbers),
-    }
-}
+use verdict_line::write_verdict;
 
 // The line of an outcome: its verdict's word, the two inputs and the five counts.
 fn write_outcome(o: Outcome, line: &mut [u8; LINE_SIZE]) -> usize

@@ -1,8 +1,8 @@
--- `result_line::write_verdict` meets its contract: the line of the verdict's word.
+-- `verdict_line::write_verdict` meets its contract: the line of the verdict's word.
 -- Assumes nothing.
 use borrow.Author.Needs.{needs}
-use Rattle.result_line.proofs.write_verdict.Statement.{statement}
-use Rattle.result_line.proofs.write_verdict.Tie as tie
+use Rattle.verdict_line.proofs.write_verdict.Statement.{statement}
+use Rattle.verdict_line.proofs.write_verdict.Tie as tie
 
 enum-told : tie.Need-enum-told
 enum-told c = search needs

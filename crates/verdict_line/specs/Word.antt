@@ -1,0 +1,11 @@
+-- The word of a verdict, as ASCII bytes: document 01, "Pairs to try".
+-- Assumes nothing.
+use Prim.Native.Nat.{ℕ}
+use mathlib.Core.List.{List, [], _∷_}
+use Rattle.comparison_meaning.specs.Verdict.{Verdict, equal, different, undecided}
+
+-- the verdict's word: `equal`, `different`, `undecided`
+abbrev pub verdictWord : Verdict → List ℕ
+verdictWord equal = 101 ∷ 113 ∷ 117 ∷ 97 ∷ 108 ∷ []
+verdictWord different = 100 ∷ 105 ∷ 102 ∷ 102 ∷ 101 ∷ 114 ∷ 101 ∷ 110 ∷ 116 ∷ []
+verdictWord undecided = 117 ∷ 110 ∷ 100 ∷ 101 ∷ 99 ∷ 105 ∷ 100 ∷ 101 ∷ 100 ∷ []
