@@ -1,8 +1,8 @@
 #!/usr/bin/env python3
 """Holds the engine to the independent implementation beside this file: the programs record_calls, pair_calls and dense_calls, which drive
-every public call with rows of text, and the program compare, which reads two records.
+every public call with rows of text, and the programs compare and compare_small, which read two records.
 
-    rt check record_calls pair_calls dense_calls compare && python3 tests/against_reference.py [TIMES]
+    rt check record_calls pair_calls dense_calls compare compare_small && python3 tests/against_reference.py [TIMES]
 
 Fixed cases at the limits come first, then random families (random_pairs.py) that reach every rule; TIMES multiplies the random cases. Up to
 5 qubits, equal and different are also held to exact dense columns. Small blocks go through dense_calls and pair_calls both, and where the path
@@ -24,6 +24,8 @@ from classes import BOTH, CLASSES, kind_class
 
 ROOT = os.path.join(os.path.dirname(os.path.abspath(__file__)), "..")
 SEED = 20261115
+# the line that each program prints for its input
+PROGRAM_LINES = {"compare": ref.run_program, "compare_small": ref.run_small_program}
 
 
 def fail(words):
@@ -102,16 +104,16 @@ class Check:
         self.rows_run += len(pairs)
         self.see(f"rows of {name}")
 
-    def run_program(self, data, want=None):
-        """The program compare on these bytes, held to the independent implementation and to the given line."""
-        line = ref.run_program(data)
-        done = subprocess.run([program("compare")], input=data, capture_output=True)
+    def run_program(self, data, want=None, name="compare"):
+        """A program on these bytes, held to the independent implementation and to the given line."""
+        line = PROGRAM_LINES[name](data)
+        done = subprocess.run([program(name)], input=data, capture_output=True)
         if done.returncode < 0 or done.stdout.decode() != line + "\n":
-            fail(f"compare on\n{data[:4000].hex()}\nprinted {done.stdout!r}, wanted {line!r}")
+            fail(f"{name} on\n{data[:4000].hex()}\nprinted {done.stdout!r}, wanted {line!r}")
         if want is not None:
             hold(line, want)
         words = line.split()
-        self.see("program: " + (line if words[0] == "refused" else words[0]))
+        self.see(f"program {name}: {line if words[0] == 'refused' else words[0]}")
         return line
 
 
@@ -510,27 +512,48 @@ def full_records():
     )
 
 
+def long_inputs(check, data, line, name="compare"):
+    """Two records of 512 gates as a program's input: whole, cut, and with bytes in front and behind."""
+    if len(data) != 3082:
+        fail(f"{len(data)} bytes where 3082 are meant")
+    check.run_program(data, line, name)
+    for size, number in ((4, 1), (5, 13), (1540, 13), (1541, 1), (1545, 1), (1546, 13), (3081, 13)):
+        check.run_program(data[:size], f"refused {number}", name)
+    check.run_program(data + b"\0", "refused 12", name)
+    check.run_program(data + b"\0" * 1000000, "refused 12", name)
+    check.run_program(b"\0" + data * 400, "refused 2", name)
+    check.see(*(f"program {name}: {size} bytes" for size in (3082, 3083, 1000000)))
+
+
 def fixed_inputs(check):
-    """The program at its limits."""
+    """The program compare at its limits."""
     example = bytes.fromhex("514301060003 00FF0700FF0300FF0700FF0300FF0700FF5143010000")
     check.run_program(example, "equal 0 0 1 1 1 0 0")
     check.run_program(b"", "refused 1")
     for n, first, second, line in full_records():
-        data = ref.record(n, first) + ref.record(n, second)
-        if len(data) != 3082:
-            fail(f"{len(data)} bytes where 3082 are meant")
-        check.run_program(data, line)
-        for size, number in ((4, 1), (5, 13), (1540, 13), (1541, 1), (1545, 1), (1546, 13), (3081, 13)):
-            check.run_program(data[:size], f"refused {number}")
-        check.run_program(data + b"\0", "refused 12")
-        check.run_program(data + b"\0" * 1000000, "refused 12")
-        check.run_program(b"\0" + data * 400, "refused 2")
-        check.see("program: 3082 bytes", "program: 3083 bytes", "program: 1000000 bytes")
+        long_inputs(check, ref.record(n, first) + ref.record(n, second), line)
     for n, h, line in ((16, 48, "different 0 0 16 0 0 16 0"), (16, 49, "refused 9"), (1, 64, "refused 9")):
         data = ref.record(n, pairs.one(ref.H, *(q % n for q in range(h))))
         check.run_program(data + ref.record(n, []), line)
     check.run_program(ref.record(17, []) + ref.record(17, []), "refused 3")
     check.run_program(ref.record(1, pairs.one(ref.X, *[0] * 513)) + ref.record(1, []), "refused 4")
+
+
+def fixed_small_inputs(check):
+    """The program compare_small at its limits: the longest lists, qubits, H gates; 12 comes before 8, 9 and 14."""
+    name = "compare_small"
+    for (n, first, second, _), line in zip(full_records(), ("equal 0 0", "refused 14", "refused 14")):
+        long_inputs(check, ref.record(n, first) + ref.record(n, second), line, name)
+    for n, h, line in ((4, 60, "equal 0 0"), (3, 61, "refused 14"), (4, 61, "refused 9"), (6, 58, "equal 0 0"), (7, 0, "refused 14")):
+        for cut in (0, h // 3, h):
+            data = b"".join(ref.record(n, pairs.one(ref.H, *[n - 1] * count)) for count in (cut, h - cut))
+            check.run_program(data, line, name)
+            check.run_program(data + b"\0", "refused 12", name)
+    for first, second, line in ((6, 6, "different 0 48"), (6, 7, "refused 8")):
+        data = ref.record(first, [(ref.CZ, 4, 5)]) + ref.record(second, [])
+        check.run_program(data, line, name)
+        check.run_program(data + b"\0", "refused 12", name)
+        check.run_program(data[:-1], "refused 1", name)
 
 
 def fixed_rows(check):
@@ -617,6 +640,7 @@ def main():
     rng = random.Random(SEED)
     check = Check()
     fixed_inputs(check)
+    fixed_small_inputs(check)
     fixed_rows(check)
     fixed_refusals(check)
     fixed_small_rows(check)
@@ -638,9 +662,14 @@ def main():
         n, first, second = rng.choice(pairs.FAMILIES)(rng)
         data = ref.record(n, first) + ref.record(n, second)
         check.run_program(damaged_input(rng, data) if i % 3 == 0 else data)
+    blocks = 600 * times
+    for i in range(blocks):
+        n, first, second = rng.choice(pairs.SMALL[:-1] if i % 8 else pairs.FAMILIES)(rng)
+        data = ref.record(n, first) + ref.record(n, second)
+        check.run_program(damaged_input(rng, data) if i % 3 == 0 else data, name="compare_small")
     show_classes(check)
     print(both_line(check))
-    print(f"{len(check.rows)} rows and {inputs} random inputs: all agree with the independent implementation")
+    print(f"{len(check.rows)} rows and {inputs + blocks} random inputs: all agree with the independent implementation")
 
 
 if __name__ == "__main__":

@@ -83,7 +83,8 @@ REFUSALS = {
     "compare": (*OF_A_LIST, 8, 9, 10),
     "pick": (*OF_A_LIST, 8, 9, 10),
     "dense": (*OF_A_LIST, 8, 9, 14, 10),
-    "program": (*OF_A_LIST, 8, 9, 12),
+    "program compare": (*OF_A_LIST, 12, 8, 9),
+    "program compare_small": (*OF_A_LIST, 12, 8, 9, 14),
 }
 # the gate that a call is refused at
 ANY_GATE = ("gate 0", "a later gate")
@@ -126,7 +127,8 @@ def kind_class(kind):
 
 
 CLASSES = (
-    *(f"{call}: {verdict}" for call in ("compare", "program") for verdict in ref.VERDICTS),
+    *(f"{call}: {verdict}" for call in ("compare", "program compare") for verdict in ref.VERDICTS),
+    *(f"program compare_small: {verdict}" for verdict in ("equal", "different")),
     *(f"compare: {event}" for event in EVENTS),
     *(f"compare: {shape}" for shape in SHAPES),
     *(f"{call}: family {name}" for call in ("compare", "pick") for name in FAMILIES),
@@ -140,6 +142,6 @@ CLASSES = (
     *(f"{call}: refused {k}" for call, numbers in REFUSALS.items() for k in numbers),
     *(f"{call}: refused at {place}" for call, places in BAD_GATES.items() for place in places),
     *(f"{call}: {fault}" for call in ("compare", "pick", "dense") for fault in BAD_LISTS),
-    *(f"program: {size} bytes" for size in (3082, 3083, 1000000)),
+    *(f"program {name}: {size} bytes" for name in ("compare", "compare_small") for size in (3082, 3083, 1000000)),
     *(f"rows of {name}" for name in PROGRAMS),
 )

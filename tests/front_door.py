@@ -1,8 +1,8 @@
 #!/usr/bin/env python3
-"""Drives the built program and the script `compare` and `examples/gates` through their limits: every refusal with the border between two
-files, long and cut files, failed reads and writes, one write a line, every exit status, and what the script builds and when.
+"""Drives the built programs and the scripts `compare` and `compare_small`, and `examples/gates`, through their limits: every refusal with the
+border between two files, long and cut files, failed reads and writes, one write a line, every exit status, and what the scripts build and when.
 
-    rt check compare && python3 tests/front_door.py
+    rt check compare compare_small && python3 tests/front_door.py
 
 It prints what differs and fails where anything does; its last line counts the checks.
 """
@@ -24,14 +24,12 @@ sys.dont_write_bytecode = True
 import reference
 
 ROOT = os.path.realpath(os.path.join(os.path.dirname(os.path.abspath(__file__)), ".."))
-PROGRAM = os.path.join(ROOT, "target", "bin", "compare")
-SCRIPT = os.path.join(ROOT, "compare")
 GATES = os.path.join(ROOT, "examples", "gates")
 NOBODY = 65534
 SECONDS = 120
 UMASK = os.umask(0o022)
 os.umask(UMASK)
-HELD = {"checks": 0, "failed": 0}
+HELD = {"checks": 0, "failed": 0, "of": ""}
 
 
 # ---- checks
@@ -40,7 +38,7 @@ def check(label, got, want):
     HELD["checks"] += 1
     if got != want:
         HELD["failed"] += 1
-        print(f"FAILED {label}\n    got  {got!r}\n    want {want!r}")
+        print(f"FAILED {HELD['of']}{label}\n    got  {got!r}\n    want {want!r}")
 
 
 def holds(label, what, value):
@@ -48,7 +46,7 @@ def holds(label, what, value):
     HELD["checks"] += 1
     if not what:
         HELD["failed"] += 1
-        print(f"FAILED {label}\n    got  {value!r}")
+        print(f"FAILED {HELD['of']}{label}\n    got  {value!r}")
 
 
 def run(words, **more):
@@ -88,19 +86,19 @@ def one(names):
 EXAMPLE = bytes.fromhex("514301060003 00FF 0700FF 0300FF 0700FF 0300FF 0700FF".replace(" ", ""))
 NOTHING = bytes.fromhex("5143010000")
 FULL = record(1, ["T 0"] * 512)
-# document 01, "Pairs to try": the rows marked P, and CX
+# document 01, "Pairs to try": the rows marked P, and CX; the line of compare and that of compare_small
 ROWS = (
-    (one(""), NOTHING, "equal 0 0 0 0 0 0 0"),
-    (one("H"), NOTHING, "different 0 0 1 0 0 0 0"),
-    (one("H H"), NOTHING, "equal 0 0 1 1 0 0 0"),
-    (one("H H H H"), NOTHING, "equal 0 0 1 1 0 1 0"),
-    (EXAMPLE, NOTHING, "equal 0 0 1 1 1 0 0"),
-    (one("T T"), one("S"), "equal 0 0 0 0 0 0 0"),
-    (one("T"), NOTHING, "different 0 1 0 0 0 0 0"),
-    (one("X"), NOTHING, "different 0 0 0 0 0 0 0"),
-    (one("H Z H"), NOTHING, "different 0 0 1 0 0 0 1"),
-    (one("H T H"), NOTHING, "undecided 0 0 1 0 0 0 1"),
-    (record(2, ["CX 0 1"]), record(2, []), "different 1 1 0 0 0 0 0"),
+    (one(""), NOTHING, "equal 0 0 0 0 0 0 0", "equal 0 0"),
+    (one("H"), NOTHING, "different 0 0 1 0 0 0 0", "different 0 0"),
+    (one("H H"), NOTHING, "equal 0 0 1 1 0 0 0", "equal 0 0"),
+    (one("H H H H"), NOTHING, "equal 0 0 1 1 0 1 0", "equal 0 0"),
+    (EXAMPLE, NOTHING, "equal 0 0 1 1 1 0 0", "equal 0 0"),
+    (one("T T"), one("S"), "equal 0 0 0 0 0 0 0", "equal 0 0"),
+    (one("T"), NOTHING, "different 0 1 0 0 0 0 0", "different 0 1"),
+    (one("X"), NOTHING, "different 0 0 0 0 0 0 0", "different 0 0"),
+    (one("H Z H"), NOTHING, "different 0 0 1 0 0 0 1", "different 0 0"),
+    (one("H T H"), NOTHING, "undecided 0 0 1 0 0 0 1", "different 0 0"),
+    (record(2, ["CX 0 1"]), record(2, []), "different 1 1 0 0 0 0 0", "different 0 1"),
 )
 # a file for each number that a list alone is refused by, in the order of the checks
 BAD = {
@@ -131,7 +129,48 @@ ORDER = (
     ("CX from 0 to 0", b"QC\x02\x01\x00\x08\x00\x00", 6),
     ("a second gate that is none", b"QC\x01\x02\x00\x07\x01\xff\x0b\x00\xff", 6),
 )
+# the limits of compare_small, 14: 6 qubits and 60 H gates in both lists; 9 before it, and 12 before both
+BLOCKS = (
+    ("6 qubits", record(6, ["CZ 4 5"]), record(6, []), "different 0 48"),
+    ("7 qubits", record(7, []), record(7, []), "refused 14"),
+    ("60 H gates first", record(4, ["H 3"] * 60), record(4, []), "equal 0 0"),
+    ("60 H gates in both", record(3, ["H 2"] * 29), record(3, ["H 2"] * 31), "equal 0 0"),
+    ("61 H gates first", record(3, ["H 0"] * 61), record(3, []), "refused 14"),
+    ("61 H gates in both", record(3, ["H 2"] * 30), record(3, ["H 2"] * 31), "refused 14"),
+    ("61 H gates second", record(3, []), record(3, ["H 0"] * 61), "refused 14"),
+    ("9 before 14", record(4, ["H 0"] * 61), record(4, []), "refused 9"),
+    ("8 before 14", record(7, []), record(6, []), "refused 8"),
+    ("12 before 14", record(7, []), record(7, []) + b"\0", "refused 12"),
+    ("13 before 14", record(7, []), record(7, ["T 0"])[:-1], "refused 13"),
+)
 WORDS = {"equal": 0, "different": 1, "undecided": 2, "refused": 3}
+
+
+class Door:
+    """A program and its script: the name, and how many numbers stand behind a verdict."""
+
+    def __init__(self, name, numbers):
+        self.name, self.numbers = name, numbers
+        self.program = os.path.join(ROOT, "target", "bin", name)
+        self.script = os.path.join(ROOT, name)
+
+    def line(self, line):
+        """The line, newline and all, where both find what compare tells by this one: as many of its numbers as this door shows."""
+        return " ".join(line.split()[: 1 + self.numbers]).encode() + b"\n"
+
+    def rows(self):
+        """(first, second, line) of document 01's rows."""
+        for first, second, line, small in ROWS:
+            yield first, second, line if self is COMPARE else small
+
+    def blocks(self):
+        """(label, first, second, line) at the limits that compare does not have."""
+        return () if self is COMPARE else BLOCKS
+
+
+COMPARE, SMALL = Door("compare", 7), Door("compare_small", 2)
+DOORS = (COMPARE, SMALL)
+EQUAL = "equal 0 0 1 1 1 0 0"  # the example against nothing, by compare
 
 
 def status_of(line):
@@ -145,10 +184,11 @@ def cut_cases():
         yield size, EXAMPLE[:size], f"refused {1 if size < 5 else 13}"
 
 
-def border_cases():
+def border_cases(door):
     """(label, first file, second file, line): what the border between two files and the end of each decide."""
-    for first, second, line in ROWS:
+    for first, second, line in door.rows():
         yield f"row {line}", first, second, line
+    yield from door.blocks()
     yield "empty first, two records in the second", b"", EXAMPLE + NOTHING, "refused 1"
     yield "two records in the first, empty second", EXAMPLE + NOTHING, b"", "refused 1"
     yield "both empty", b"", b"", "refused 1"
@@ -164,7 +204,7 @@ def border_cases():
         yield f"first refused by {number}, second by another", bad, other, f"refused {number}"
         yield f"bytes behind the first, second refused by {number}", EXAMPLE + b"\0", bad, f"refused {number}"
     for label, bad, number in ORDER:
-        yield label, bad, NOTHING, f"refused {number}"
+        yield f"order: {label}", bad, NOTHING, f"refused {number}"
     yield "bytes behind the first", EXAMPLE + b"\0", NOTHING, "refused 12"
     yield "bytes behind the second", EXAMPLE, NOTHING + b"\0", "refused 12"
     yield "bytes behind both", EXAMPLE + b"Q", NOTHING + b"C", "refused 12"
@@ -189,10 +229,12 @@ def long_cases():
     yield "a megabyte of zeros", bytes(1000000), NOTHING, "refused 2"
 
 
-def stream_cases():
+def stream_cases(door):
     """(label, standard input, line)."""
-    for first, second, line in ROWS:
+    for first, second, line in door.rows():
         yield f"row {line}", first + second, line
+    for label, first, second, line in door.blocks():
+        yield label, first + second, line
     yield "nothing", b"", "refused 1"
     yield "one record", EXAMPLE, "refused 1"
     yield "cut head of the second", EXAMPLE + NOTHING[:4], "refused 1"
@@ -231,45 +273,45 @@ class Room:
 
 
 # ---- the program
-def program_answers(room):
+def program_answers(room, door):
     """The program on every pair, as files and as one stream: the line, and nothing else."""
-    for label, first, second, line in [*border_cases(), *long_cases()]:
-        got = run([PROGRAM, room.file(first), room.file(second)])
-        check(f"program, files: {label}", got, (0, f"{line}\n".encode(), ""))
-    for label, data, line in stream_cases():
-        check(f"program, stream: {label}", run([PROGRAM], input=data), (0, f"{line}\n".encode(), ""))
+    for label, first, second, line in [*border_cases(door), *long_cases()]:
+        got = run([door.program, room.file(first), room.file(second)])
+        check(f"program, files: {label}", got, (0, door.line(line), ""))
+    for label, data, line in stream_cases(door):
+        check(f"program, stream: {label}", run([door.program], input=data), (0, door.line(line), ""))
 
 
-def slow_stream():
+def slow_stream(_, door):
     """One byte a write: the program waits for the end of its input."""
-    for data, line in ((EXAMPLE + NOTHING, b"equal 0 0 1 1 1 0 0\n"), (EXAMPLE + NOTHING + b"\0", b"refused 12\n")):
-        with subprocess.Popen([PROGRAM], stdin=subprocess.PIPE, stdout=subprocess.PIPE, bufsize=0) as child:
+    for data, line in ((EXAMPLE + NOTHING, EQUAL), (EXAMPLE + NOTHING + b"\0", "refused 12")):
+        with subprocess.Popen([door.program], stdin=subprocess.PIPE, stdout=subprocess.PIPE, bufsize=0) as child:
             for byte in data:
                 child.stdin.write(bytes([byte]))
                 time.sleep(0.002)
-            check("program, stream: byte by byte", child.communicate(timeout=SECONDS)[0], line)
+            check("program, stream: byte by byte", child.communicate(timeout=SECONDS)[0], door.line(line))
 
 
-def failed_in_the_middle():
+def failed_in_the_middle(door):
     """A read that fails after two whole records were read: the far end of a terminal that was closed."""
     master, slave = pty.openpty()
     tty.setraw(slave)
     os.write(slave, EXAMPLE + NOTHING)
     os.close(slave)
-    _, out, err = run([PROGRAM], stdin=master)
+    _, out, err = run([door.program], stdin=master)
     os.close(master)
     check("program, stream: a read fails in the middle", out, b"")
-    holds("program, stream: a read fails in the middle, message", err == "compare: standard input: Input/output error\n", err)
+    holds("program, stream: a read fails in the middle, message", err == f"{door.name}: standard input: Input/output error\n", err)
 
 
-def refuses_to_read(label, words, message, **more):
-    """Nothing on standard output, and a message that says what failed."""
-    _, out, err = run(words, **more)
-    check(f"{label}: standard output", out, b"")
-    holds(f"{label}: message", err.startswith("compare: ") and message in err and err.endswith("\n"), err)
+def refuses_to_read(door, label, words, message, **more):
+    """The program prints nothing on standard output, and a message that says what failed."""
+    _, out, err = run([door.program, *words], **more)
+    check(f"program, {label}: standard output", out, b"")
+    holds(f"program, {label}: message", err.startswith(f"{door.name}: ") and message in err and err.endswith("\n"), err)
 
 
-def program_failures(room):
+def program_failures(room, door):
     """Inputs and arguments that cannot be had, and a line that cannot be written."""
     good, folder, gone = room.file(NOTHING), room.path, os.path.join(room.path, "gone")
     for label, words, message in (
@@ -284,19 +326,19 @@ def program_failures(room):
         ("a read that fails, first", ["/proc/self/mem", good], "/proc/self/mem: Input/output error"),
         ("a read that fails, second", [good, "/proc/self/mem"], "/proc/self/mem: Input/output error"),
     ):
-        refuses_to_read(f"program, {label}", [PROGRAM, *words], message)
+        refuses_to_read(door, label, words, message)
     for words in ([good], [good, good, good]):
-        _, out, err = run([PROGRAM, *words])
-        check(f"program, {len(words)} arguments", (out, err[:6]), (b"", "usage:"))
+        _, out, err = run([door.program, *words])
+        check(f"program, {len(words)} arguments", (out, err), (b"", f"usage: {door.name} [FIRST SECOND]\n"))
     fd = os.open(folder, os.O_RDONLY)
-    refuses_to_read("program, standard input a directory", [PROGRAM], "standard input: Is a directory", stdin=fd)
+    refuses_to_read(door, "standard input a directory", [], "standard input: Is a directory", stdin=fd)
     os.close(fd)
     with open("/dev/full", "wb") as full:
-        _, _, err = run([PROGRAM, good, good], stdout=full)
-    check("program, /dev/full", err, "compare: standard output: No space left on device\n")
-    _, _, err = run(["sh", "-c", 'exec "$@" >&-', "sh", PROGRAM, good, good])
-    check("program, closed standard output", err, "compare: standard output: Bad file descriptor\n")
-    failed_in_the_middle()
+        _, _, err = run([door.program, good, good], stdout=full)
+    check("program, /dev/full", err, f"{door.name}: standard output: No space left on device\n")
+    _, _, err = run(["sh", "-c", 'exec "$@" >&-', "sh", door.program, good, good])
+    check("program, closed standard output", err, f"{door.name}: standard output: Bad file descriptor\n")
+    failed_in_the_middle(door)
 
 
 def writes_of(words, **more):
@@ -311,128 +353,133 @@ def writes_of(words, **more):
     return packets
 
 
-def one_write(room):
+def one_write(room, door):
     """A line goes out in one write, from the program and from the script."""
     two = writes_of(["sh", "-c", "echo a; echo b"])
     check("the pipe keeps two writes apart", two, [b"a\n", b"b\n"])
-    for first, line in ((EXAMPLE, b"equal 0 0 1 1 1 0 0\n"), (EXAMPLE + b"\0", b"refused 12\n")):
+    for first, line in ((EXAMPLE, EQUAL), (EXAMPLE + b"\0", "refused 12")):
         words = [room.file(first), room.file(NOTHING)]
-        check("program, files: one write", writes_of([PROGRAM, *words]), [line])
-        check("script, files: one write", writes_of([SCRIPT, *words]), [line])
-    check("program, stream: one write", writes_of([PROGRAM], input=EXAMPLE + NOTHING), [b"equal 0 0 1 1 1 0 0\n"])
+        check("program, files: one write", writes_of([door.program, *words]), [door.line(line)])
+        check("script, files: one write", writes_of([door.script, *words]), [door.line(line)])
+    check("program, stream: one write", writes_of([door.program], input=EXAMPLE + NOTHING), [door.line(EQUAL)])
 
 
 # ---- the script
-def script_answers(room):
-    """Line and exit status of the script; the borders hold there too."""
-    cases = [case for case in border_cases() if "cut to" not in case[0]]
-    for label, first, second, line in cases + list(long_cases())[:7]:
-        got = run([SCRIPT, room.file(first), room.file(second)])
-        check(f"script, files: {label}", got, (status_of(line), f"{line}\n".encode(), ""))
-    for label, data, line in [case for case in stream_cases() if "refused by" not in case[0] and "cut to" not in case[0]]:
-        check(f"script, stream: {label}", run([SCRIPT], input=data), (status_of(line), f"{line}\n".encode(), ""))
+def script_answers(room, door):
+    """Line and exit status of the script; the borders hold there too. Both names are of one script, so each is given a part of the cases."""
+    files, not_files, not_streams = [*border_cases(door), *list(long_cases())[:7]], "cut to", "cut to|refused by"
+    if door is SMALL:
+        files, few = [*border_cases(door)], "cut to (?!4 |22 )|refused by (?!13)"
+        not_files, not_streams = f"{few}|order:", f"{few}|row"
+    for label, first, second, line in [case for case in files if not re.search(not_files, case[0])]:
+        got = run([door.script, room.file(first), room.file(second)])
+        check(f"script, files: {label}", got, (status_of(line), door.line(line), ""))
+    for label, data, line in [case for case in stream_cases(door) if not re.search(not_streams, case[0])]:
+        check(f"script, stream: {label}", run([door.script], input=data), (status_of(line), door.line(line), ""))
     same = room.file(EXAMPLE)
-    check("script, the same file twice", run([SCRIPT, same, same])[:2], (0, b"equal 0 0 1 1 2 1 0\n"))
+    check("script, the same file twice", run([door.script, same, same])[:2], (0, door.line("equal 0 0 1 1 2 1 0")))
 
 
-def script_names(room):
+def script_names(room, door):
     """Names with spaces and dashes, relative names, a link to the script, and files that are no regular ones."""
     spaced = os.path.join(room.path, "two words")
     os.mkdir(spaced)
     other = Room(spaced)
     other.file(EXAMPLE, "a  b")
     other.file(NOTHING, "-h")
-    want = (0, b"equal 0 0 1 1 1 0 0\n", "")
-    check("script, names with spaces and a dash", run([SCRIPT, "--", "a  b", "-h"], cwd=spaced), want)
-    check("script, a dash in the middle of a path", run([SCRIPT, "a  b", "./-h"], cwd=spaced), want)
-    check("script, a dash without --", run([SCRIPT, "a  b", "-x"], cwd=spaced)[:2], (64, b""))
-    check("script, a relative path", run([SCRIPT, "two words/a  b", os.path.join(spaced, "-h")], cwd=room.path), want)
-    link = os.path.join(room.path, "link to compare")
-    os.symlink(SCRIPT, link)
-    check("script, by a link", run([link, "a  b", "./-h"], cwd=spaced), want)
+    want = (0, door.line(EQUAL), "")
+    check("script, names with spaces and a dash", run([door.script, "--", "a  b", "-h"], cwd=spaced), want)
+    check("script, a dash in the middle of a path", run([door.script, "a  b", "./-h"], cwd=spaced), want)
+    check("script, a dash without --", run([door.script, "a  b", "-x"], cwd=spaced)[:2], (64, b""))
+    check("script, a relative path", run([door.script, "two words/a  b", os.path.join(spaced, "-h")], cwd=room.path), want)
+    links = [os.path.join(room.path, name) for name in ("a link", "compare", "compare_small")]
+    for before, link in zip((door.script, *links), links):
+        os.symlink(before, link)
+        check(f"script, by {os.path.basename(link)}", run([link, "a  b", "./-h"], cwd=spaced), want)
     other.file(EXAMPLE, "a\nb\n")
-    check("script, a name with line ends", run([SCRIPT, "a\nb\n", "./-h"], cwd=spaced), want)
-    check("script, /dev/stdin as a name", run([SCRIPT, "/dev/stdin", "./-h"], cwd=spaced, input=EXAMPLE), want)
-    check("script, names around --", run([SCRIPT, "a  b", "--", "-h"], cwd=spaced), want)
-    check("script, a path of 4,095 bytes", run([SCRIPT, "/" * (4095 - len(spaced) - 5) + spaced + "/a  b", "./-h"], cwd=spaced), want)
-    words = f"'{SCRIPT}' <(cat 'a  b') <(cat ./-h)"
+    check("script, a name with line ends", run([door.script, "a\nb\n", "./-h"], cwd=spaced), want)
+    check("script, /dev/stdin as a name", run([door.script, "/dev/stdin", "./-h"], cwd=spaced, input=EXAMPLE), want)
+    check("script, names around --", run([door.script, "a  b", "--", "-h"], cwd=spaced), want)
+    check("script, a path of 4,095 bytes", run([door.script, "/" * (4095 - len(spaced) - 5) + spaced + "/a  b", "./-h"], cwd=spaced), want)
+    words = f"'{door.script}' <(cat 'a  b') <(cat ./-h)"
     check("script, pipes as files", run(["bash", "-c", words], cwd=spaced), want)
 
 
-def script_usage(room):
+def script_usage(room, door):
     """Help, bad usage and a terminal."""
     good = room.file(NOTHING)
     for option in ("-h", "--help"):
-        status, out, err = run([SCRIPT, option])
+        status, out, err = run([door.script, option])
         check(f"script {option}", (status, err), (0, ""))
-        for number in (0, 1, 2, 3, 64, 70, 74):
-            holds(f"script {option} names {number}", re.search(rf"^ +{number}  ", out.decode(), re.M), out)
+        told = [int(number) for number in re.findall(r"^ +(\d+)  ", out.decode(), re.M)]
+        check(f"script {option}, the exit statuses", told, [number for number in (0, 1, 2, 3, 64, 70, 74) if number != 2 or door is COMPARE])
+        holds(f"script {option}, its name", out.decode().startswith(f"usage: {door.name} FIRST SECOND "), out)
     for words in ([good], [good, good, good], ["--unknown", good], ["-", good], [good, "--x"], ["--", good]):
-        status, out, err = run([SCRIPT, *words])
+        status, out, err = run([door.script, *words])
         check(f"script, bad usage {words}", (status, out), (64, b""))
-        holds(f"script, bad usage {words}, message", err.startswith("compare: ") and "usage:" in err, err)
+        holds(f"script, bad usage {words}, message", err.startswith(f"{door.name}: ") and f"\nusage: {door.name} " in err, err)
     master, slave = pty.openpty()
-    status, out, err = run([SCRIPT], stdin=slave)
+    status, out, err = run([door.script], stdin=slave)
     os.close(slave)
     os.close(master)
     check("script, no names at a terminal", (status, out, "usage:" in err), (64, b"", True))
-    check("script, run by another shell", run(["sh", SCRIPT, good, good])[0] in (0, 70), True)
+    check("script, run by another shell", run(["sh", door.script, good, good])[0] in (0, 70), True)
 
 
-def script_failures(room):
+def script_failures(room, door):
     """Exit status 74: inputs that cannot be read and lines that cannot be written."""
     good, gone = room.file(NOTHING), os.path.join(room.path, "gone")
     failing = ("a read that fails", ["/proc/self/mem", good])
     for label, words in (("missing", [gone, good]), ("directory", [good, room.path]), ("empty name", ["", good]), failing):
-        status, out, err = run([SCRIPT, *words])
-        check(f"script, {label}", (status, out, err[:9]), (74, b"", "compare: "))
-    status, out, err = run([SCRIPT, "a" * 4096, good])
-    check("script, long name", (status, out, err[:9]), (74, b"", "compare: "))
+        status, out, err = run([door.script, *words])
+        check(f"script, {label}", (status, out, err.split()[0]), (74, b"", f"{door.name}:"))
+    status, out, err = run([door.script, "a" * 4096, good])
+    check("script, long name", (status, out, err.split()[0]), (74, b"", f"{door.name}:"))
     fd = os.open(room.path, os.O_RDONLY)
-    check("script, standard input a directory", run([SCRIPT], stdin=fd)[:2], (74, b""))
+    check("script, standard input a directory", run([door.script], stdin=fd)[:2], (74, b""))
     os.close(fd)
     for words in ([good, good], ["--help"]):
         with open("/dev/full", "wb") as full:
-            status, _, err = run([SCRIPT, *words], stdout=full)
-        check(f"script, /dev/full {words[-1]}", (status, err[:9]), (74, "compare: "))
-        closed = ["sh", "-c", 'exec "$@" >&-', "sh", SCRIPT, *words]
+            status, _, err = run([door.script, *words], stdout=full)
+        check(f"script, /dev/full {words[-1]}", (status, err.split()[0]), (74, f"{door.name}:"))
+        closed = ["sh", "-c", 'exec "$@" >&-', "sh", door.script, *words]
         status, _, err = run(closed)
-        check(f"script, closed standard output {words[-1]}", (status, err[:9]), (74, "compare: "))
+        check(f"script, closed standard output {words[-1]}", (status, err.split()[0]), (74, f"{door.name}:"))
         reader, writer = os.pipe()
         os.close(reader)
-        check(f"script, nobody reads {words[-1]}", run([SCRIPT, *words], stdout=writer)[0], 74)
+        check(f"script, nobody reads {words[-1]}", run([door.script, *words], stdout=writer)[0], 74)
         os.close(writer)
 
 
-def unread_messages(room):
+def unread_messages(room, door):
     """Nobody reads standard error: the status stays what it is."""
     good, gone = room.file(NOTHING), os.path.join(room.path, "gone")
     for words, status in (([gone, good], 74), (["/proc/self/mem", good], 74), ([good], 64), (["--x"], 64), ([good, good], 0)):
         reader, writer = os.pipe()
         os.close(reader)
-        got = subprocess.run([SCRIPT, *words], stdin=subprocess.DEVNULL, stdout=subprocess.PIPE, stderr=writer, timeout=SECONDS)
+        got = subprocess.run([door.script, *words], stdin=subprocess.DEVNULL, stdout=subprocess.PIPE, stderr=writer, timeout=SECONDS)
         os.close(writer)
         check(f"script, nobody reads the message, {words}", got.returncode, status)
 
 
-def closed_descriptors(room):
+def closed_descriptors(room, door):
     """Standard input, output and error closed, in every mixture: never a hang, never a line that is no answer."""
     good, gone = room.file(NOTHING), os.path.join(room.path, "gone")
     for closed in ("<&-", "2>&-", "<&- 2>&-"):
-        words = ["sh", "-c", f'exec "$@" {closed}', "sh", SCRIPT]
-        check(f"script, {closed}", run([*words, good, good])[:2], (0, b"equal 0 0 0 0 0 0 0\n"))
+        words = ["sh", "-c", f'exec "$@" {closed}', "sh", door.script]
+        check(f"script, {closed}", run([*words, good, good])[:2], (0, door.line("equal 0 0 0 0 0 0 0")))
         check(f"script, {closed}, missing file", run([*words, gone, good])[:2], (74, b""))
         check(f"script, {closed}, one name", run([*words, good])[:2], (64, b""))
         want = (74, b"") if "<" in closed else (3, b"refused 1\n")
         check(f"script, {closed}, /dev/stdin as a name", run([*words, "/dev/stdin", good])[:2], want)
         check(f"script, {closed}, no names", run(words)[:2], want)
     for closed in (">&-", "<&- >&-", ">&- 2>&-", "<&- >&- 2>&-"):
-        words = ["sh", "-c", f'exec "$@" {closed}', "sh", SCRIPT]
+        words = ["sh", "-c", f'exec "$@" {closed}', "sh", door.script]
         for names in ([good, good], [gone, good], []):
             check(f"script, {closed}, {len(names)} names", run([*words, *names])[:2], (74, b""))
 
 
-def unreadable(room):
+def unreadable(room, door):
     """A file that may not be read, as a user who is not root."""
     good, secret = room.file(NOTHING), room.file(NOTHING)
     os.chmod(secret, 0)
@@ -441,14 +488,14 @@ def unreadable(room):
         os.chmod(room.path, 0o755)
         more = {"user": NOBODY, "group": NOBODY, "extra_groups": []}
     try:
-        probe = run([PROGRAM, good, good], **more)[1]
+        probe = run([door.program, good, good], **more)[1]
     except OSError:
         probe = b""
-    if probe != b"equal 0 0 0 0 0 0 0\n":
+    if probe != door.line("equal 0 0 0 0 0 0 0"):
         print("skipped: a file that may not be read (nobody cannot run the program here)")
         return
-    refuses_to_read("program, unreadable", [PROGRAM, secret, good], f"{secret}: Permission denied", **more)
-    status, out, err = run([SCRIPT, good, secret], **more)
+    refuses_to_read(door, "unreadable", [secret, good], f"{secret}: Permission denied", **more)
+    status, out, err = run([door.script, good, secret], **more)
     check("script, unreadable", (status, out, secret in err), (74, b"", True))
 
 
@@ -462,25 +509,28 @@ echo "$*" >>"$here/runs"
 echo 'rt: first_crate proved (1 s)'
 echo 'a line that nobody needs'
 echo 'rt: second_crate proved (unchanged since it was last proved)'
+mkdir "$here/at_work" || : >"$here/two"
 sleep "$(cat "$here/seconds")"
+rmdir "$here/at_work"
 if [ -e "$here/fail" ]; then echo 'rt: third_crate NOT PROVED (exit 1, 1 s)'; echo 'why it failed'; exit 1; fi
 mkdir -p target/bin
-cp "$here/program" target/bin/compare
+cp "$here/$2" "target/bin/$2"
 echo 'rt: ok, 2 crates proved'
 """
 
 
 class Copy:
-    """The script beside a few sources, with a stand-in for rt that can be taken away."""
+    """Both scripts beside a few sources, with a stand-in for rt that can be taken away."""
 
     def __init__(self, path):
         self.root, self.tools = os.path.join(path, "the root"), os.path.join(path, "tools")
         os.makedirs(os.path.join(self.root, "crates", "a"))
         os.mkdir(self.tools)
-        shutil.copy(SCRIPT, self.root)
+        for door in DOORS:
+            shutil.copy(door.script, self.root)
+            shutil.copy(door.program, self.tools)
         self.put("crates.txt", "a:\n")
         self.put("crates/a/lib.rt", "// a\n")
-        shutil.copy(PROGRAM, os.path.join(self.tools, "program"))
         for name, text in (("version", "kit 1\n"), ("seconds", "0\n"), ("runs", ""), ("rt", FAKE)):
             self.put(os.path.join(self.tools, name), text)
         os.chmod(os.path.join(self.tools, "rt"), 0o755)
@@ -500,18 +550,18 @@ class Copy:
         with open(os.path.join(self.tools, "runs"), encoding="utf-8") as file:
             return len(file.readlines())
 
-    def words(self):
+    def words(self, door=COMPARE):
         """The command."""
-        return [os.path.join(self.root, "compare"), *self.files]
+        return [os.path.join(self.root, door.name), *self.files]
 
     def env(self, tool=True):
         """The environment, with rt or without."""
         return dict(os.environ, PATH=f"{self.tools}:{self.bare}" if tool else self.bare)
 
-    def compare(self, label, runs, tool=True):
+    def compare(self, label, runs, tool=True, door=COMPARE):
         """The comparison gives its line, and the stand-in has been run so often."""
-        status, out, err = run(self.words(), env=self.env(tool))
-        check(f"build, {label}", (status, out, self.runs()), (0, b"equal 0 0 1 1 1 0 0\n", runs))
+        status, out, err = run(self.words(door), env=self.env(tool))
+        check(f"build, {label}", (status, out, self.runs()), (0, door.line(EQUAL), runs))
         return err
 
 
@@ -574,7 +624,7 @@ def progress_meanwhile(copy):
     os.close(reader)
     got = subprocess.run(copy.words(), env=copy.env(), stdout=subprocess.PIPE, stderr=writer, timeout=SECONDS)
     os.close(writer)
-    check("build, nobody reads the progress", (got.returncode, got.stdout), (0, b"equal 0 0 1 1 1 0 0\n"))
+    check("build, nobody reads the progress", (got.returncode, got.stdout), (0, COMPARE.line(EQUAL)))
 
 
 def others_use(copy):
@@ -603,15 +653,45 @@ def builds_that_fail(copy):
 
 
 def at_once(copy):
-    """Four runs at once: four lines, one build."""
+    """Six runs at once, three of each script: six lines, one build of each program, never both at a time."""
     copy.put("crates/a/lib.rt", "// e\n")
     before = copy.runs()
     more = {"env": copy.env(), "stdout": subprocess.PIPE, "stderr": subprocess.PIPE, "stdin": subprocess.DEVNULL}
-    children = [subprocess.Popen(copy.words(), **more) for _ in range(4)]
-    for child in children:
+    children = [(door, subprocess.Popen(copy.words(door), **more)) for door in DOORS * 3]
+    for door, child in children:
         out, _ = child.communicate(timeout=SECONDS)
-        check("build, four at once", (child.returncode, out), (0, b"equal 0 0 1 1 1 0 0\n"))
-    check("build, four at once, one build", copy.runs() - before, 1)
+        check("build, six at once", (child.returncode, out), (0, door.line(EQUAL)))
+    check("build, six at once, a build of each", copy.runs() - before, 2)
+    holds("build, six at once, one after the other", not os.path.exists(os.path.join(copy.tools, "two")), "two")
+
+
+def under_either_name(copy):
+    """Each script builds its own program where that is not of these sources, whatever the other has built."""
+    other = copy.words(SMALL)
+    status, out, err = run(other, env=copy.env(tool=False))
+    check("build, compare_small: no rt", (status, out, err.count("\n"), err.split()[0]), (70, b"", 1, "compare_small:"))
+    before = copy.runs()
+    err = copy.compare("compare_small: the first time", before + 1, door=SMALL)
+    holds("build, compare_small: progress", "some minutes\ncompare_small: first_crate proved (1 s)\n" in err, err)
+    for door in (SMALL, COMPARE):
+        check(f"build, {door.name}: silent, nothing changed", copy.compare("nothing changed", before + 1, False, door), "")
+    copy.put("crates/a/lib.rt", "// each\n")
+    copy.compare("compare: a changed file", before + 2)
+    copy.compare("compare_small: a changed file", before + 3, door=SMALL)
+    os.remove(os.path.join(copy.root, "target/bin/compare_small"))
+    check("build, compare: the other's program is gone", copy.compare("the other's program is gone", before + 3), "")
+    copy.compare("compare_small: its program is gone", before + 4, door=SMALL)
+    with open(os.path.join(copy.tools, "runs"), encoding="utf-8") as file:
+        asked = file.read().split()[2 * before + 1 :: 2]
+    check("build, what rt is asked for under each name", asked, ["compare_small", "compare", "compare_small", "compare_small"])
+    for line in ("equal 0 0 0 0 0 0 0", "undecided 0 0", "equal 0 0 0", "different 0"):
+        copy.put(os.path.join(copy.tools, "compare_small"), f"#!/bin/sh\necho {line}\n")
+        copy.put("crates/a/lib.rt", f"// {line}\n")
+        check(f"build, compare_small: {line} is no result", run(other, env=copy.env())[:2], (70, b""))
+    shutil.copy(SMALL.program, copy.tools)
+    os.rename(os.path.join(copy.root, "compare"), os.path.join(copy.root, "kept"))
+    check("compare_small without compare", run(other, env=copy.env())[:2], (70, b""))
+    os.rename(os.path.join(copy.root, "kept"), os.path.join(copy.root, "compare"))
 
 
 def builds(room):
@@ -620,15 +700,17 @@ def builds(room):
     built_when_needed(copy)
     progress_meanwhile(copy)
     others_use(copy)
+    under_either_name(copy)
     builds_that_fail(copy)
     at_once(copy)
+    copy.put(os.path.join(copy.tools, "seconds"), "0\n")
     copy.put("crates/a/lib.rt", "// f\n")
     got = run(copy.words()[:1], env=copy.env(), input=EXAMPLE + NOTHING)
-    check("build, standard input is the comparison's", got[:2], (0, b"equal 0 0 1 1 1 0 0\n"))
-    copy.put(os.path.join(copy.tools, "program"), "#!/bin/sh\necho equal 0 0\n")
+    check("build, standard input is the comparison's", got[:2], (0, COMPARE.line(EQUAL)))
+    copy.put(os.path.join(copy.tools, "compare"), "#!/bin/sh\necho equal 0 0\n")
     copy.put("crates/a/lib.rt", "// g\n")
     check("build, a line that is no result", run(copy.words(), env=copy.env())[:2], (70, b""))
-    copy.put(os.path.join(copy.tools, "program"), "#!/bin/sh\necho equal 0 0 0 0 0 0 0\nexit 1\n")
+    copy.put(os.path.join(copy.tools, "compare"), "#!/bin/sh\necho equal 0 0 0 0 0 0 0\nexit 1\n")
     copy.put("crates/a/lib.rt", "// h\n")
     check("build, a program that fails", run(copy.words(), env=copy.env())[:2], (70, b""))
 
@@ -637,16 +719,16 @@ def builds(room):
 def examples():
     """Every row of the examples' table, and each record beside its text."""
     with open(os.path.join(ROOT, "examples", "README.md"), encoding="utf-8") as file:
-        rows = re.findall(r"^\| `\./compare (\S+) (\S+)` \| `(.*)` \| (\d+) \|$", file.read(), re.M)
-    check("examples, rows of the table", len(rows), 6)
-    for first, second, line, status in rows:
-        got = run([SCRIPT, first, second], cwd=ROOT)
-        check(f"examples, {first} {second}", got, (int(status), f"{line}\n".encode(), ""))
+        rows = re.findall(r"^\| `\./(compare|compare_small) (\S+) (\S+)` \| `(.*)` \| (\d+) \|$", file.read(), re.M)
+    check("examples, rows of the table", [row[0] for row in rows], ["compare"] * 6 + ["compare_small"])
+    for name, first, second, line, status in rows:
+        got = run([os.path.join(ROOT, name), first, second], cwd=ROOT)
+        check(f"examples, {name} {first} {second}", got, (int(status), f"{line}\n".encode(), ""))
     with open(os.path.join(ROOT, "README.md"), encoding="utf-8") as file:
         readme = file.read()
     told = [re.search(r"^    \./compare (\S+) (\S+)$", readme, re.M), re.search(r"and prints `(.*?)`", readme)]
     told = tuple(word for found in told if found for word in found.groups())
-    holds("examples, README's pair and line", told in [row[:3] for row in rows], told)
+    holds("examples, README's pair and line", ("compare", *told) in [row[:4] for row in rows], told)
     records = sorted(f for f in os.listdir(os.path.join(ROOT, "examples")) if f.endswith(".gates"))
     check("examples, records", len(records), 8)
     for name in records:
@@ -734,7 +816,7 @@ def gates_records(room):
         for _ in range(rng.randint(1, 3)):
             data[rng.randrange(len(data))] = rng.choice((0, 1, 2, 7, 9, 10, 11, 16, 17, 0x43, 0x51, 255))
         data = bytes(data)[: rng.randint(3, len(data) + 20)] + bytes(rng.choice((0, 0, 1)))
-        out = run([PROGRAM, room.file(data, "mutant"), room.file(NOTHING)])[1].decode().split()
+        out = run([COMPARE.program, room.file(data, "mutant"), room.file(NOTHING)])[1].decode().split()
         want = out[1] if out[0] == "refused" and out[1] not in ("8", "9") else ""
         got, _, gate = gates.refusal(data).partition(", gate ")
         seen.add(want)
@@ -744,19 +826,25 @@ def gates_records(room):
 
 def main():
     """Runs everything."""
-    if not os.access(PROGRAM, os.X_OK):
-        print("front_door: the program is not built; rt check compare builds it")
-        return 1
-    status, _, err = run([SCRIPT, "--", GATES, GATES])
-    if status != 3:
-        print(f"front_door: the script does not run: {status}\n{err}")
-        return 1
-    parts = (program_answers, program_failures, one_write, script_answers, script_names, script_usage, script_failures,
-             unread_messages, closed_descriptors, unreadable, builds, gates_texts, gates_records)
-    for part in parts:
+    for door in DOORS:
+        if not os.access(door.program, os.X_OK):
+            print(f"front_door: the program is not built; rt check {door.name} builds it")
+            return 1
+        status, _, err = run([door.script, "--", GATES, GATES])
+        if status != 3:
+            print(f"front_door: the script {door.name} does not run: {status}\n{err}")
+            return 1
+    both = (program_answers, slow_stream, program_failures, one_write, script_answers, script_names, script_usage, script_failures,
+            unread_messages, closed_descriptors, unreadable)
+    for door in DOORS:
+        for part in both:
+            with tempfile.TemporaryDirectory() as path:
+                HELD["of"] = f"{door.name}: "
+                part(Room(path), door)
+    HELD["of"] = ""
+    for part in (builds, gates_texts, gates_records):
         with tempfile.TemporaryDirectory() as path:
             part(Room(path))
-    slow_stream()
     examples()
     print(f"front_door: {HELD['checks']} checks, {HELD['failed']} failed")
     return 1 if HELD["failed"] else 0

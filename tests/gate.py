@@ -243,6 +243,7 @@ def try_documents(folder):
         ("a clause that is not there", "README.md", "(`clifford`)", "(`cliford`)", "cliford"),
         ("a crate not named", "README.md", "`record_report`", "`record_reports`", "record_report"),
         ("a file that is not there", "README.md", "`docs/DECISIONS.md`", "`docs/DECISION.md`", "docs/DECISION.md"),
+        ("a script that is not there", "README.md", "`./compare_small`", "`./compare_smal`", "compare_smal"),
         ("a path of one machine", "README.md", "## Calls", "See /some/where/else.\n\n## Calls", "/some/where"),
         ("an exit status", "README.md", "| 74 |", "| 73 |", "exit statuses"),
         ("another number of a refusal", "README.md", "| `BodyShort` | 13 |", "| `BodyShort` | 1 |", "refusals"),
@@ -314,15 +315,29 @@ def try_cross_check(folder):
         for other in others:
             ends(f"cross-check, {other} for {line}", one_row, f"echo '0: {other}'; echo 'rows 1'", row)
 
-    def one_input(text, want=None):
-        put(folder, "compare", f"#!/bin/sh\n{text}\n", 0o755)
-        cross.Check().run_program(bytes.fromhex("5143010000") * 2, want)
+    def one_input(name, text, want=None, data="51430100005143010000"):
+        put(folder, name, f"#!/bin/sh\n{text}\n", 0o755)
+        cross.Check().run_program(bytes.fromhex(data), want, name)
 
-    line = "equal 0 0 0 0 0 0 0"
-    passes("cross-check, the program's line", one_input, f"echo {line}", line)
-    ends("cross-check, another line is written", one_input, f"echo {line}", "equal 0 0 1 1 0 0 0")
-    for label, text in (("another line", "echo equal 0 0 0 0 0 0 1"), ("no end", f"printf '{line}'"), ("ended", f"echo {line}; kill -9 $$")):
-        ends(f"cross-check, compare: {label}", one_input, text)
+    for name, line, others in (
+        ("compare", "equal 0 0 0 0 0 0 0", ("equal 0 0 0 0 0 0 1", "equal 0 0", "different 0 0 0 0 0 0 0")),
+        ("compare_small", "equal 0 0", ("equal 0 1", "equal 0 0 0 0 0 0 0", "different 0 0", "undecided 0 0")),
+    ):
+        passes(f"cross-check, {name}: its line", one_input, name, f"echo {line}", line)
+        ends(f"cross-check, {name}: no end", one_input, name, f"printf '{line}'")
+        ends(f"cross-check, {name}: ended", one_input, name, f"echo {line}; kill -9 $$")
+        for other in others:
+            ends(f"cross-check, {name}: {other}", one_input, name, f"echo {other}")
+            ends(f"cross-check, {name}: {other} is written", one_input, name, f"echo {line}", other)
+    for data, number, others in (
+        ("51430700005143070000", 14, (9, 10, 12)),
+        ("5143070000514307000000", 12, (14, 9)),
+        ("51430700005143060000", 8, (14, 12)),
+        ("5143070000514307010005", 13, (12, 14)),
+    ):
+        passes(f"cross-check, compare_small: {number}", one_input, "compare_small", f"echo refused {number}", f"refused {number}", data)
+        for other in others:
+            ends(f"cross-check, compare_small: {other} for {number}", one_input, "compare_small", f"echo refused {other}", None, data)
     check = cross.Check()
     check.see(*CLASSES)
     passes("cross-check, every class", cross.show_classes, check)
@@ -379,7 +394,7 @@ def main():
     with tempfile.TemporaryDirectory() as folder:
         for name in ("tests", "docs", "examples", "bench", "crates", ".ci"):
             shutil.copytree(os.path.join(ROOT, name), os.path.join(folder, name))
-        for name in ("README.md", "crates.txt", "compare"):
+        for name in ("README.md", "crates.txt", "compare", "compare_small"):
             shutil.copy(os.path.join(ROOT, name), folder)
         try_rows(folder)
         try_row_faults(folder)

@@ -279,17 +279,32 @@ def compare(n, first, second, events=None):
     return result("equal", 0, 0)
 
 
+def read_input(data):
+    """n and both lists of a program's input that passes 12, 8 and 9; raises Refused."""
+    n, first, length = read_record(data)
+    m, second, more = read_record(data[length:])
+    if len(data) > length + more:
+        raise Refused(12)
+    check_pair(n, first, m, second)
+    return n, first, second
+
+
 def run_program(data):
-    """The line that the program prints for these bytes of input."""
+    """The line that the program compare prints for these bytes of input."""
     try:
-        n, first, length = read_record(data)
-        m, second, more = read_record(data[length:])
-        if len(data) > length + more:
-            raise Refused(12)
-        check_pair(n, first, m, second)
+        return " ".join(map(str, compare(*read_input(data))))
     except Refused as refusal:
         return f"refused {refusal.number}"
-    return " ".join(map(str, compare(n, first, second)))
+
+
+def run_small_program(data):
+    """The line that the program compare_small prints for them."""
+    try:
+        pair = read_input(data)
+        check_small(*pair, NUMBERS)
+        return " ".join(map(str, compare_small(*pair)))
+    except Refused as refusal:
+        return f"refused {refusal.number}"
 
 
 def h_gates(gates):
@@ -327,14 +342,18 @@ def read_pair(first, second, words, places):
     return pair
 
 
-def read_small(first, second, numbers):
-    """n and both lists of a pair that is accepted as a small block with a buffer of so many numbers; raises Refused."""
-    n, gates, others = read_lists(first, second)
+def check_small(n, gates, others, numbers):
     if n > MOST_QUBITS or h_gates(gates + others) > MOST_HADAMARDS:
         raise Refused(14)
     if numbers < NUMBERS:
         raise Refused(10)
-    return n, gates, others
+
+
+def read_small(first, second, numbers):
+    """n and both lists of a pair that is accepted as a small block with a buffer of so many numbers; raises Refused."""
+    pair = read_lists(first, second)
+    check_small(*pair, numbers)
+    return pair
 
 
 def t_gates(gates):
