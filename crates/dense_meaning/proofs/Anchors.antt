@@ -1,7 +1,7 @@
--- Worked cases of the definitions, by computation: which input is the first at which no power fits all columns up to it.
+-- Worked cases of the definitions, by computation: the limits, and which input is the first at which no power fits all columns up to it.
 -- Assumes nothing.
 use mathlib.Core.Path.{_≡_, refl}
-use Prim.Native.Nat.{ℕ}
+use Prim.Native.Nat.{ℕ, _*_, _^_}
 use mathlib.Core.Bool.{xor}
 use mathlib.Core.List.{List, [], _∷_}
 use mathlib.Core.Option.{Option, none, some}
@@ -11,7 +11,12 @@ use Rattle.amplitude.specs.Bits.{bit, put}
 use Rattle.amplitude.specs.Matrix.{matrix, entry, times}
 use Rattle.amplitude.specs.Circuit.{basis, apply, run, column, tally}
 use Rattle.amplitude.specs.Testing.{eqℤ, eqω, below, carriesState}
+use Rattle.dense_meaning.specs.Limits.{blockQubits, blockHGates, bufferSize}
 use Rattle.dense_meaning.specs.Columns.{someOf, firstBelow, firstUnfit}
+
+-- the limits: a column of four numbers an amplitude, for each of two lists on the most qubits, fills the buffer
+limits : (blockQubits ≡ 6) × (blockHGates ≡ 60) × (bufferSize ≡ 2 * (4 * 2 ^ blockQubits))
+limits = (refl, refl, refl)
 
 -- the first such input, computed
 shown : ℕ → List Gate → List Gate → Option ℕ

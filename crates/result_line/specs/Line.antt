@@ -1,4 +1,4 @@
--- The line that the program prints, as ASCII bytes: document 01, "Pairs to try" and "Where a call is turned down".
+-- The line that the program compare prints, as ASCII bytes: document 01, "Pairs to try" and "Where a call is turned down".
 -- Assumes nothing.
 use Prim.Native.Nat.{ℕ}
 use mathlib.Core.Bool.{Bool, cond}
