@@ -1,11 +1,11 @@
 #!/usr/bin/env python3
-"""Holds the engine to the independent implementation beside this file: the programs record_calls, pair_calls and dense_calls, which drive
+"""Holds the engine to the independent implementation beside this file: the programs record_calls and pair_calls, which drive
 every public call with rows of text, and the programs compare and compare_small, which read two records.
 
-    rt check record_calls pair_calls dense_calls compare compare_small && python3 tests/against_reference.py [TIMES]
+    rt check record_calls pair_calls compare compare_small && python3 tests/against_reference.py [TIMES]
 
 Fixed cases at the limits come first, then random families (random_pairs.py) that reach every rule; TIMES multiplies the random cases. Up to
-5 qubits, equal and different are also held to exact dense columns. Small blocks go through dense_calls and pair_calls both, and where the path
+5 qubits, equal and different are also held to exact dense columns. Small blocks go through both comparisons, and where the path
 sum decides, the two must print the same verdict. Every class of cases is counted. The run fails where a line differs, two verdicts do, a class
 never came up, or one came up that classes.py does not list.
 """

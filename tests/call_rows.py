@@ -1,4 +1,4 @@
-"""Rows of the programs record_calls, pair_calls and dense_calls, and the line that each must give by the independent implementation beside
+"""Rows of the programs record_calls and pair_calls, and the line that each must give by the independent implementation beside
 this file. tests/README.md describes both.
 """
 import re
@@ -202,16 +202,15 @@ def dense(numbers, first, second, events):
 
 READERS = {"check": check, "gates": gates, "read_report": read_report}
 BUILDERS = {"start": start, "add": add, "write_report": write_report}
-PAIRS = {"compare": compare, "pick": pick}
-SMALL = {"dense": dense}
-CALLS = {**READERS, **BUILDERS, "check_gate": check_gate, "inverse": inverse, **PAIRS, **SMALL}
-PROGRAMS = ("record_calls", "pair_calls", "dense_calls")
+PAIRS = {"compare": compare, "pick": pick, "dense": dense}
+CALLS = {**READERS, **BUILDERS, "check_gate": check_gate, "inverse": inverse, **PAIRS}
+PROGRAMS = ("record_calls", "pair_calls")
 
 
 def program_of(row):
     """The program that a row is for; one that names no call on a pair goes to the record layer's."""
     call = (row.split(";") + [""])[1]
-    return "pair_calls" if call in PAIRS else "dense_calls" if call in SMALL else "record_calls"
+    return "pair_calls" if call in PAIRS else "record_calls"
 
 
 def answer(row, events=None):

@@ -121,7 +121,6 @@ def try_rows(folder):
     for name, test, row in (
         ("record_calls", "make_rows.py", "5143"),
         ("pair_calls", "make_rows.py", "h0"),
-        ("dense_calls", "make_rows.py", "h0"),
         ("phase_sum_vectors", "phase_sum_rows.py", "QC"),
     ):
         for file, old in (("stdin", row), ("stdout", "1")):

@@ -1,5 +1,5 @@
 #!/usr/bin/env python3
-"""Writes the rows of the programs record_calls, pair_calls and dense_calls and what they must print for them, from tests/rows.txt.
+"""Writes the rows of the programs record_calls and pair_calls and what they must print for them, from tests/rows.txt.
 
     python3 tests/make_rows.py [--check]
 

@@ -1,19 +1,28 @@
-// Drives the calls on a pair, compare and pick, with rows of text from standard input and prints one line for each; the last line says how
-// many rows there were. tests/README.md describes rows and lines; tests/make_rows.py writes the rows of the gate and what must be printed
-// for them.
+// Drives the calls on a pair, compare, pick and the dense comparison, with rows of text from standard input and prints one line for each; the
+// last line says how many rows there were. tests/README.md describes rows and lines; tests/make_rows.py writes the rows of the gate and
+// what must be printed for them.
 //
 // A row: NAME;CALL;NUMBERS;FIRST;SECOND, all five of them. NUMBERS are decimal, one space between two. FIRST and SECOND are bytes in
 // hexadecimal, or a list of gates on n qubits, as `2:h0 t1 c01` (calls_lists). What is printed: the name, what the call answered, and what
-// the lent workspaces hold afterwards. A row that cannot be read prints `bad row`.
+// the lent workspaces or numbers hold afterwards. A row that cannot be read prints `bad row`.
 use calls_text::lines;
 use calls_text::part;
 use calls_text::print;
+
+// The call of a name, on what its row says.
+fn run(name: &[u8], numbers: &[u8], first: &[u8], second: &[u8]) {
+    if check::same(name, b"dense") {
+        calls_dense::run(numbers, first, second);
+        return;
+    }
+    calls_pairs::run(name, numbers, first, second);
+}
 
 // One row: its name, and then what the call gives.
 fn row(buffer: &[u8], size: usize) {
     let row = lines::begin(buffer, size);
     if lines::is_row(row) {
-        calls_pairs::run(
+        run(
             part(row, b';', 1),
             part(row, b';', 2),
             part(row, b';', 3),

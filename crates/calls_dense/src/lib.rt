@@ -1,5 +1,6 @@
-// The call of a row. The numbers say how many of the places are lent, and with what all of them begin.
-use crate::numbers;
+// The dense comparison, by a row. The numbers say how many of the places are lent, and with what all of them begin.
+mod numbers;
+
 use calls_lists::MOST_BYTES;
 use calls_lists::bytes_of;
 use calls_text::Bytes;
@@ -52,7 +53,7 @@ fn on(numbers: &[u8], first: &[u8], second: &[u8]) {
 }
 
 // Two lists, or one slice given twice where the second is written `=`.
-fn pair(numbers: &[u8], first: &[u8], second: &[u8]) {
+pub fn run(numbers: &[u8], first: &[u8], second: &[u8]) {
     let mut a = [0xa5u8; MOST_BYTES];
     let mut b = [0xa5u8; MOST_BYTES];
     let Bytes::Count(size) = bytes_of(first, &mut a) else {
@@ -68,13 +69,4 @@ fn pair(numbers: &[u8], first: &[u8], second: &[u8]) {
         return;
     };
     on(numbers, front(&a, size), front(&b, other));
-}
-
-// The call of a name, on what its row says.
-pub(crate) fn run(name: &[u8], numbers: &[u8], first: &[u8], second: &[u8]) {
-    if check::same(name, b"dense") {
-        pair(numbers, first, second);
-        return;
-    }
-    print::bad();
 }

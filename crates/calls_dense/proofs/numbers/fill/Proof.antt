@@ -1,34 +1,29 @@
--- `dense_calls::numbers::seen` is safe and ends: each turn goes one number on.
+-- `calls_dense::numbers::fill` is safe and ends: the numbers keep their count, and each turn goes one on.
 -- Assumes nothing.
+use mathlib.Core.Path.{_≡_}
 use Prim.Native.Nat.{_-_}
 use lib.ListN.{length}
 use borrow.Author.Needs.{needs}
-use Rattle.dense_calls.proofs.numbers.seen.Statement.{statement}
-use Rattle.dense_calls.proofs.numbers.seen.Tie as tie
+use Rattle.calls_dense.proofs.numbers.fill.Statement.{statement}
+use Rattle.calls_dense.proofs.numbers.fill.Tie as tie
 
 abbrev Inv-loop : tie.InvT-loop
-Inv-loop numbers seed seen₀ x₀ i₀ seen x i = Unit
+Inv-loop numbers₀ seed x₀ i₀ numbers x i = length numbers ≡ length numbers₀
 
 abbrev μ-loop : tie.MeasureT-loop
-μ-loop numbers seed seen₀ x₀ i₀ seen x i = length numbers - i
+μ-loop numbers₀ seed x₀ i₀ numbers x i = length numbers₀ - i
 
 loop-holds : tie.Need-loop-holds Inv-loop μ-loop
 loop-holds c = search needs
 
-mul-held : tie.Need-mul-held Inv-loop μ-loop
-mul-held c = search needs
-
-shared-slice-copy-out-held : tie.Need-shared-slice-copy-out-held Inv-loop μ-loop
-shared-slice-copy-out-held c = search needs
-
-is-zero-requires : tie.Need-is-zero-requires Inv-loop μ-loop
-is-zero-requires c κs = search needs
-
 number-of-requires : tie.Need-number-of-requires Inv-loop μ-loop
 number-of-requires c κs = search needs
 
-with-requires : tie.Need-with-requires Inv-loop μ-loop
-with-requires c κs = search needs
+mul-t5 : tie.Need-mul-t5 Inv-loop μ-loop
+mul-t5 c = search needs
+
+slice-set-from-numbers : tie.Need-slice-set-from-numbers Inv-loop μ-loop
+slice-set-from-numbers c = search needs
 
 next-requires : tie.Need-next-requires Inv-loop μ-loop
 next-requires c κs = search needs
@@ -42,23 +37,25 @@ loop-less c = search needs
 loop-again : tie.Need-loop-again Inv-loop μ-loop
 loop-again c = search needs
 
+same-length : tie.Need-same-length Inv-loop μ-loop
+same-length c = search needs
+
 returns : tie.Need-returns Inv-loop μ-loop
 returns c = search needs
 
-pub seen-spec : {M : Type 1} → statement M
-seen-spec =
+pub fill-spec : {M : Type 1} → statement M
+fill-spec =
     tie.close
     (tie.spec
     Inv-loop
     μ-loop
     loop-holds
-    mul-held
-    shared-slice-copy-out-held
-    is-zero-requires
     number-of-requires
-    with-requires
+    mul-t5
+    slice-set-from-numbers
     next-requires
     add-i
     loop-less
     loop-again
+    same-length
     returns)
