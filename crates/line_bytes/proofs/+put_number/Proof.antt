@@ -1,7 +1,7 @@
 -- `line_bytes::put_number` meets its contract: the digits of the tenth, then the last digit. The measure is the number.
 -- Assumes nothing.
 use mathlib.Core.Path.{ap}
-use Prim.Native.Nat.{ℕ, _≤_}
+use Prim.Native.Nat.{ℕ, _<_, _≤_}
 use native.Mathlib.Omega.{arith}
 use lib.ListN.{length}
 use borrow.Author.Needs.{needs}
