@@ -17,7 +17,7 @@ fn print(line: &[u8]) {
     }
 }
 
-// Two records, each with nothing behind it, compared.
+// Two inputs compared, and the line printed.
 fn run(first: &[u8], second: &[u8]) {
     let mut sets = [0u64; PLACES];
     let mut coeffs = [0u8; PLACES];

@@ -17,7 +17,7 @@ fn print(line: &[u8]) {
     }
 }
 
-// Two records, each with nothing behind it, compared.
+// Two inputs compared, and the line printed.
 fn run(first: &[u8], second: &[u8]) {
     let mut buffer = [0i64; BUFFER_SIZE];
     let mut line = [0u8; LINE_SIZE];

@@ -1,12 +1,16 @@
 // The dense comparison of two gate lists, as licensees call it: document 02, item 2. For blocks of at most six qubits with at most 60 H
 // gates it says equal or different and never undecided. It takes any bytes and any buffer, refuses by number what is bad, and then changes
-// nothing that it was lent. All that is public here is the call, its answer, or a limit.
+// nothing that it was lent. All that is public here is the call, an answer or its number, or a limit; verdicts and refusals are those of
+// `comparison`.
 ghost use mathlib.Core.Path.{_≡_};
 ghost use lib.ListN.{length};
 ghost use Rattle.dense_types.specs.Call.{found, foundOf, saidOf, denseComparison, leftBy};
 ghost use Rattle.dense_types.specs.Clauses.{Exact, Sound, First, Inputs, Agrees};
 ghost use Rattle.dense_judging.specs.Judging.{unfitOf};
-use comparison_types::Verdict;
+pub use comparison_types::Refusal;
+pub use comparison_types::Verdict;
+pub use comparison_types::number;
+pub use comparison_types::verdict_number;
 pub use dense_checking::BLOCK_H_GATES;
 pub use dense_checking::BLOCK_QUBITS;
 pub use dense_checking::BUFFER_SIZE;

@@ -1,12 +1,11 @@
 -- `dense_gates::apply_one` meets its contract: the zeros of the matrix say which pass it is.
 -- Assumes nothing.
-use mathlib.Core.Path.{_≡_, sym, _∙_}
-use mathlib.Core.Bool.{true, false}
+use mathlib.Core.Path.{sym, _∙_}
 use borrow.Author.Needs.{needs}
 use Rattle.record_format.specs.Gate.{OneQubit}
-use Rattle.amplitude.specs.Matrix.{matrix, entry}
+use Rattle.amplitude.specs.Matrix.{matrix}
 use Rattle.dense_columns.specs.Columns.{amplitudeAt}
-use Rattle.dense_gates.specs.Gates.{entryOf, gateOfKind}
+use Rattle.dense_gates.specs.Gates.{gateOfKind}
 use Rattle.dense_gates.proofs.Matrices.{zero-entry, not-zero, power-small, Diagonal, diagonal, Crossing, crossing, Full, full, diagonal-turns, crossing-crosses, full-combines}
 use Rattle.dense_gates.proofs.apply_one.Statement.{statement}
 use Rattle.dense_gates.proofs.apply_one.Tie as tie
