@@ -48,11 +48,13 @@ COUNT = "5 passed, 0 failed"
 PIPES = {"stdin": subprocess.DEVNULL, "stdout": subprocess.PIPE, "stderr": subprocess.DEVNULL}
 
 
-def run_gate(folder, ci, failing=None, jobs="2", processors="exit 9"):
-    """(status, lines) of the gate where rt ci and nproc are these pieces of shell and one test may fail; each test prints a line."""
+def run_gate(folder, ci, failing=None, jobs="2", processors="exit 9", slow=None, end="sys.exit(1)"):
+    """(status, lines) of the gate where rt ci and nproc are these pieces of shell, one test may fail and one be slow; each prints a line."""
     for test in TESTS:
         name = test.split()[0]
-        put(folder, f"tests/{name}", f"import sys\nprint('ran', {name!r}, *sys.argv[1:])\nsys.exit({int(test == failing)})\n")
+        pause = "time.sleep(0.3)\n" if test == slow else ""
+        last = end if test == failing else ""
+        put(folder, f"tests/{name}", f"import os, sys, time\n{pause}print('ran', {name!r}, *sys.argv[1:], flush=True)\n{last}\n")
     put(folder, "tools/rt", f'#!/bin/sh\n[ "$*" = ci ] || exit 9\n{ci}\n', 0o755)
     put(folder, "tools/nproc", f"#!/bin/sh\n{processors}\n", 0o755)
     env = dict(os.environ, PATH=os.path.join(folder, "tools") + ":" + os.environ["PATH"], RT_JOBS=jobs)
@@ -72,6 +74,12 @@ def try_gate(folder):
     for test in TESTS:
         status, lines = run_gate(folder, f"echo '{COUNT}'", test)
         trial(f"gate, {test} fails", status == 1 and COUNT not in lines and f"gate: tests/{test.split()[0]} failed" == lines[-1], lines)
+    for test in (TESTS[0], TESTS[-1]):
+        got = run_gate(folder, f"echo '{COUNT}'", slow=test)
+        trial(f"gate, {test} is slow", got == (0, [*(f"ran {test}" for test in TESTS), COUNT]), got)
+        for end in ("sys.exit(1)", "os.kill(os.getpid(), 9)"):
+            status, lines = run_gate(folder, f"echo '{COUNT}'", test, slow=test, end=end)
+            trial(f"gate, {test} is slow and ends by {end}", status == 1 and f"gate: tests/{test.split()[0]} failed" == lines[-1], lines)
     for label, ci, want in (
         ("rt ci fails", "echo '4 passed, 1 failed'; exit 3", 3),
         ("rt ci fails, but counts none", f"echo '{COUNT}'; exit 3", 3),
