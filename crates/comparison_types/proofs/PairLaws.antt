@@ -59,6 +59,10 @@ module _ {n g : ℕ} {s : List ℕ} (list : AcceptedWith n g s) where
   pub gates-of : gatesIn (take (gateSize * g) (drop headSize s)) ≡ list .gates
   gates-of = rw part-of (gates-of-part s n (list .gates) (list .reads))
 
+  -- what was counted over them are its H gates
+  pub h-counted : {bytes : List ℕ} {k : ℕ} → bytes ≡ take (gateSize * g) (drop headSize s) → k ≡ hGates (gatesIn bytes) → k ≡ hGates (list .gates)
+  h-counted is counted = counted ∙ ap (λ b. hGates (gatesIn b)) is ∙ ap hGates gates-of
+
 -- a check that answered a refusal refuses the record, by its fault
 refused-by :
     (s : List ℕ) (found : Checked) (r : list-refusal.Refusal) → checkedAnswer found ≡ checkAnswer (read s) → found ≡ Checked.Refused r

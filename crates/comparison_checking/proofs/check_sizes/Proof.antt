@@ -1,15 +1,14 @@
 -- `comparison_checking::check_sizes` meets its contract: at each `return` the tests that led there say which of the pair's rows is the
 -- first that holds.
 -- Assumes nothing.
-use mathlib.Core.Path.{_≡_, ap, sym, _∙_}
+use mathlib.Core.Path.{_≡_, sym}
 use mathlib.Core.List.{[]}
 use Prim.Native.Nat.{_+_, _<_, _≤_}
 use native.Mathlib.Omega.{arith}
 use Rattle.record_format.specs.Row.{first}
-use Rattle.record_format.specs.Reading.{gatesIn}
 use Rattle.amplitude.specs.Circuit.{hGates}
 use Rattle.phase_sum_meaning.specs.Room.{mostVariables}
-use Rattle.comparison_types.proofs.PairLaws.{whole-of, gates-of, small, differ, too-many, below-decide}
+use Rattle.comparison_types.proofs.PairLaws.{whole-of, h-counted, small, differ, too-many, below-decide}
 use Rattle.comparison_checking.proofs.check_sizes.Statement.{statement}
 use Rattle.comparison_checking.proofs.check_sizes.Tie as tie
 
@@ -21,12 +20,8 @@ start c = c .before .before .before .before .before .before .before
 counted : (c : tie.After-h-gates2)
     → (c .before .before .h-gates .result ≡ hGates (start c .pre .0 .gates)) × (c .h-gates2 .result ≡ hGates (start c .pre .1 .gates))
 counted c = (
-  c .before .before .h-gates .ensures
-      ∙ ap (λ bytes. hGates (gatesIn bytes)) (c .before .before .before .gate-bytes .ensures .0)
-      ∙ ap hGates (gates-of (start c .pre .0)),
-  c .h-gates2 .ensures
-      ∙ ap (λ bytes. hGates (gatesIn bytes)) (c .before .gate-bytes2 .ensures .0)
-      ∙ ap hGates (gates-of (start c .pre .1)),
+  h-counted (start c .pre .0) (c .before .before .before .gate-bytes .ensures .0) (c .before .before .h-gates .ensures),
+  h-counted (start c .pre .1) (c .before .gate-bytes2 .ensures .0) (c .h-gates2 .ensures),
 )
 
 -- n and what was counted are small

@@ -1,13 +1,12 @@
 -- `dense_checking::check_block` meets its contract: at each `return` the tests that led there say which of the call's rows is the first that
 -- holds.
 -- Assumes nothing.
-use mathlib.Core.Path.{_≡_, ap, _∙_}
+use mathlib.Core.Path.{_≡_}
 use Prim.Native.Nat.{_+_, _<_, _≤_}
 use native.Mathlib.Omega.{arith}
-use Rattle.record_format.specs.Reading.{gatesIn}
 use Rattle.amplitude.specs.Circuit.{hGates}
 use Rattle.dense_meaning.specs.Limits.{blockQubits, blockHGates, bufferSize}
-use Rattle.comparison_types.proofs.PairLaws.{whole-of, gates-of, small}
+use Rattle.comparison_types.proofs.PairLaws.{whole-of, h-counted, small}
 use Rattle.dense_checking.proofs.Rows.{too-wide, too-many, too-short, nothing-holds}
 use Rattle.dense_checking.proofs.check_block.Statement.{statement}
 use Rattle.dense_checking.proofs.check_block.Tie as tie
@@ -20,12 +19,8 @@ start c = c .before .before .before .before .before .before .before
 counted : (c : tie.After-h-gates2)
     → (c .before .before .h-gates .result ≡ hGates (start c .pre .0 .gates)) × (c .h-gates2 .result ≡ hGates (start c .pre .1 .gates))
 counted c = (
-  c .before .before .h-gates .ensures
-      ∙ ap (λ bytes. hGates (gatesIn bytes)) (c .before .before .before .gate-bytes .ensures .0)
-      ∙ ap hGates (gates-of (start c .pre .0)),
-  c .h-gates2 .ensures
-      ∙ ap (λ bytes. hGates (gatesIn bytes)) (c .before .gate-bytes2 .ensures .0)
-      ∙ ap hGates (gates-of (start c .pre .1)),
+  h-counted (start c .pre .0) (c .before .before .before .gate-bytes .ensures .0) (c .before .before .h-gates .ensures),
+  h-counted (start c .pre .1) (c .before .gate-bytes2 .ensures .0) (c .h-gates2 .ensures),
 )
 
 -- n is within its limit
