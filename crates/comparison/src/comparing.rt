@@ -10,7 +10,7 @@ ghost use Rattle.comparison_types.specs.Clauses.{Sound, Stops, Inputs, Clifford
 ghost use Rattle.comparison_types.specs.Inner.{CountedTo, ReducesEnd, answerOf, ComparedRead};
 use comparison_checking::PLACES;
 use comparison_checking::check_call;
-use comparison_judging::judging::judge;
+use comparison_judging::judge;
 use comparison_pinning::pin;
 use comparison_reducing::reduce;
 use comparison_types::Answer;

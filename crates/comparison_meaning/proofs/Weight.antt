@@ -108,7 +108,7 @@ by-qubits scratch P start low high (suc n) v l c = go (by-qubits scratch P start
         rw s (high n u h (d .0) (ih u h (d .1)))
 
 -- the terms that hold n
-unfoldable holding : ℕ → List Term → List Term
+unfoldable pub holding : ℕ → List Term → List Term
 holding n [] = []
 holding n (t ∷ ts) = cond (bit n (t .set)) (t ∷ holding n ts) (holding n ts)
 
@@ -135,10 +135,13 @@ sum-flip n v (t ∷ ts) = go (sum-flip n v ts) (bit n (t .set)) refl (parity (t 
     go ih true e false i = rw (parity-flip, e, xor-trueˡ, i) (omega arith)
     go ih false e p i = rw (parity-flip, e, xor-falseˡ) (omega arith)
 
+-- qubit n added to an input that has lower ones
+pub sum-with : (n v : ℕ) (ts : List Term) → v < 2 ^ n → sumAt ts (2 ^ n + v) + 2 * sumAt (holding n ts) v ≡ sumAt ts v + coeffs n ts
+sum-with n v ts l = rw (power-flip n v l) (sum-flip n v ts)
+
 -- qubit n alone adds the coefficients of the terms that hold n
-sum-alone : (n : ℕ) (ts : List Term) → sumAt ts (2 ^ n + 0) ≡ coeffs n ts
-sum-alone n ts =
-    rw (power-flip n 0 (pow-pos n)) (omega (arith, sum-flip n 0 ts, sum-zero ts, sum-zero (holding n ts)))
+pub sum-alone : (n : ℕ) (ts : List Term) → sumAt ts (2 ^ n + 0) ≡ coeffs n ts
+sum-alone n ts = omega (arith, sum-with n 0 ts (pow-pos n), sum-zero ts, sum-zero (holding n ts))
 
 -- the terms add a multiple of 2^m at every input of weight up to m
 abbrev UpTo : ℕ → ℕ → ℕ → List Term → Type 0
@@ -155,7 +158,7 @@ module _ (scratch n m : ℕ) (ts : List Term) (free : bit n scratch ≡ false) (
 
   -- so, where the terms add a multiple at v, twice what those that hold n add there makes up for qubit n
   with-holding : (v : ℕ) → v < 2 ^ n → 2 ^ suc m ∣ sumAt ts v → 2 ^ suc m ∣ sumAt ts (2 ^ n + v) + 2 * sumAt (holding n ts) v
-  with-holding v l d = rw (power-flip n v l, sum-flip n v ts) (dvd-add (2 ^ suc m) d coeffs-multiple)
+  with-holding v l d = rw (sum-with n v ts l) (dvd-add (2 ^ suc m) d coeffs-multiple)
 
   -- and these add a multiple of 2^m up to weight m
   holding-up-to : UpTo scratch n m (holding n ts)

@@ -1,26 +1,22 @@
--- The search, qubit by qubit: what has been passed and what is found, for inputs that hold some higher qubits already; and that weight 2
--- is enough where no coefficient is odd.
+-- The search, qubit by qubit: what has been passed and what is found, for inputs that hold some higher qubits already.
 -- Assumes nothing.
-use mathlib.Core.Path.{_≡_, refl, sym, _∙_, ap}
-use Prim.Native.Nat.{ℕ, zero, suc, _+_, _*_, _-_, _/_, _%_, _^_, _<_, _≤_, _∣_}
-use native.Mathlib.Nat.{zero-add, add-zero, suc-add, add-assoc, mod-eq-zero-of-dvd, dvd-of-mod-eq-zero, dvd-of-mul-dvd-mul-left, mul-dvd-mul-left}
+use mathlib.Core.Path.{_≡_, refl, sym, _∙_}
+use mathlib.Core.Logic.{_⊎_, inl, inr}
+use Prim.Native.Nat.{ℕ, zero, suc, _+_, _-_, _%_, _^_, _<_}
+use native.Mathlib.Nat.{zero-add, add-zero, suc-add, add-assoc, eq-or-lt-of-le}
 use native.Mathlib.Numerals.{add-one}
 use native.Mathlib.Omega.{arith}
-use mathlib.Core.Bool.{Bool, true, false, cond, not, _||_, true≢false}
+use mathlib.Core.Bool.{Bool, true, false, not}
 use mathlib.Core.Option.{Option, none, some, Option·none-ne-some, Option·some-ne-none}
 use mathlib.Core.List.{List, [], _∷_, _++_, map, map-id, map-map, map-append}
 use lib.Dec.{eqb}
 use lib.Pow.{pow-lt}
-use borrow.Author.Tests.{eqb-true, eqb-false, eq-eqb, not-false, not-true}
-use Rattle.amplitude.specs.Bits.{digit, bit}
-use Rattle.amplitude.proofs.BitLaws.{bit-zero, bits-ext}
-use Rattle.phase_sum_meaning.specs.Sets.{parity, Among, firstSuch, Clear}
-use Rattle.phase_sum_meaning.specs.Phase.{Term, term, Phase, sumAt, phaseAt, inOdd}
-use Rattle.phase_sum_meaning.proofs.SetLaws.{parity-empty}
-use Rattle.phase_sum_meaning.proofs.VariableLaws.{firstSuch-some, firstSuch-none}
+use Rattle.amplitude.proofs.BitLaws.{bit-zero}
+use Rattle.phase_sum_meaning.specs.Sets.{firstSuch}
+use Rattle.phase_sum_meaning.specs.Phase.{Phase, phaseAt}
 use Rattle.comparison_meaning.specs.Verdict.{weight, candidates, firstDiffering}
-use Rattle.comparison_meaning.proofs.Weight.{ones, sum-zero, weight-enough, weight-counts}
-use Rattle.comparison_types.specs.Inner.{inputOf}
+use Rattle.comparison_meaning.proofs.Weight.{sum-zero}
+use Rattle.comparison_types.specs.Inner.{inputOf, AgreesToTwo}
 
 -- one qubit of sixteen alone
 pub power-small : (i : ℕ) → i < 16 → 2 ^ i < 65536
@@ -69,6 +65,18 @@ found-left φ (u ∷ us) vs x e = go (differing φ u) refl (found-left φ us vs 
     go true i ih = rw i (rw i at e)
     go false i ih = rw i (ih (rw i at e))
 
+-- none in a list: none in its first part
+none-left : (φ : Phase) (us vs : List ℕ) → firstDiffering φ (us ++ vs) ≡ none → firstDiffering φ us ≡ none
+none-left φ us vs e = go (firstDiffering φ us) refl
+  where
+    go : (o : Option ℕ) → firstDiffering φ us ≡ o → firstDiffering φ us ≡ none
+    go none f = f
+    go (some x) f = absurd (Option·some-ne-none x (sym (found-left φ us vs x f) ∙ e))
+
+-- nor in its second
+none-right : (φ : Phase) (us vs : List ℕ) → firstDiffering φ (us ++ vs) ≡ none → firstDiffering φ vs ≡ none
+none-right φ us vs e = sym (after-none φ us vs (none-left φ us vs e)) ∙ e
+
 -- an answer found in a first list is the answer
 first-left :
     (φ : Phase) (us vs : List ℕ) (x : ℕ) → (x ≡ 0 → ⊥) → inputOf x ≡ firstDiffering φ us → inputOf x ≡ firstDiffering φ (us ++ vs)
@@ -95,7 +103,7 @@ pub firstBeside : Phase → ℕ → ℕ → ℕ → Option ℕ
 firstBeside φ w k n = firstDiffering φ (beside w k n)
 
 -- beside none: the inputs of weight k
-beside-none : (φ : Phase) (k n : ℕ) → firstBeside φ 0 k n ≡ firstDiffering φ (weight 0 k n)
+pub beside-none : (φ : Phase) (k n : ℕ) → firstBeside φ 0 k n ≡ firstDiffering φ (weight 0 k n)
 unfolding firstBeside beside
 beside-none φ k n = simp (zero-add, map-id)
 
@@ -117,6 +125,15 @@ pass-itself φ w n h = rw (add-zero w, h)
 pub found-itself : (φ : Phase) (w n : ℕ) → differing φ w ≡ true → firstBeside φ w 0 n ≡ some w
 unfolding firstBeside beside weight firstSuch
 found-itself φ w n h = rw (add-zero w, h)
+
+-- and the other way round
+pub passed-itself : (φ : Phase) (w n : ℕ) → firstBeside φ w 0 n ≡ none → differing φ w ≡ false
+unfolding firstBeside beside weight firstSuch
+passed-itself φ w n h = go (differing φ w) refl
+  where
+    go : (b : Bool) → differing φ w ≡ b → differing φ w ≡ false
+    go true i = absurd (Option·some-ne-none w (sym (found-itself φ w n i) ∙ h))
+    go false i = i
 
 -- no qubits: nothing to find
 pub beside-start : (φ : Phase) (w k : ℕ) → firstBeside φ w (suc k) 0 ≡ none
@@ -148,89 +165,31 @@ module _ (φ : Phase) (w u k i : ℕ) (e : u ≡ w + 2 ^ i) (passed : firstBesid
       let more : n ≡ (n - suc i) + suc i = omega arith in
       rw more (found-later φ w k (suc i) (n - suc i) x (beside-next ∙ h))
 
--- the terms with half of each coefficient
-halved : List Term → List Term
-halved [] = []
-halved (t ∷ ts) = term (t .set) (t .coeff / 2) ∷ halved ts
+-- all qubits are passed where beside each of them and those below it there is none
+pub pass-each :
+    (φ : Phase) (w k n : ℕ) → ((i : ℕ) → i < n → firstBeside φ (w + 2 ^ i) k i ≡ none) → firstBeside φ w (suc k) n ≡ none
+pass-each φ w k zero h = beside-start φ w k
+pass-each φ w k (suc n) h =
+    let passed = pass-each φ w k n (λ i l. h i (omega arith)) in
+    rw (add-one n) at (pass-more φ w (w + 2 ^ n) k n refl passed n refl (h n (omega arith)))
 
--- an even coefficient times a parity is twice its half times that
-half-even : (c : ℕ) (b : Bool) → (c % 2 ≡ 1 → ⊥) → c * digit b ≡ 2 * (c / 2 * digit b)
-half-even c true h = omega arith
-half-even c false h = omega arith
-
--- where a true test under a condition gives false, the condition is false
-cond-off : (a b : Bool) → b ≡ true → cond a b false ≡ false → a ≡ false
-cond-off true b e h = absurd (true≢false (sym e ∙ h))
-cond-off false b e h = refl
-
--- a term adds twice what its half adds if no variable is in it with an odd coefficient
-half-term :
-    (s c x : ℕ) → ((v : ℕ) → cond (bit v s) (eqb (c % 2) 1) false ≡ false) → c * digit (parity s x) ≡ 2 * (c / 2 * digit (parity s x))
-half-term s c x h = go (eqb (c % 2) 1) refl
+-- and the other way round
+pub passed-each :
+    (φ : Phase) (w k n i : ℕ) → i < n → firstBeside φ w (suc k) n ≡ none → firstBeside φ (w + 2 ^ i) k i ≡ none
+unfolding firstBeside
+passed-each φ w k zero i l h = absurd (omega arith)
+passed-each φ w k (suc n) i l h =
+    go (rw (beside-more w (w + 2 ^ n) k n refl) at h) (passed-each φ w k n i) (eq-or-lt-of-le l)
   where
-    go : (b : Bool) → eqb (c % 2) 1 ≡ b → c * digit (parity s x) ≡ 2 * (c / 2 * digit (parity s x))
-    go true i =
-        let empty : s ≡ 0 = bits-ext s 0 (λ q. cond-off (bit q s) (eqb (c % 2) 1) i (h q) ∙ sym (bit-zero q)) in
-        rw (empty, parity-empty x) (omega arith)
-    go false i = half-even c (parity s x) (eqb-false (c % 2) 1 i)
-
--- where an or is false, both sides are
-neither : (a b : Bool) → a || b ≡ false → (a ≡ false) × (b ≡ false)
-neither true b h = absurd (true≢false h)
-neither false b h = (refl, h)
-
--- so do all the terms if no variable is in one of odd coefficient
-half-sum : (ts : List Term) (x : ℕ) → ((v : ℕ) → inOdd v ts ≡ false) → sumAt ts x ≡ 2 * sumAt (halved ts) x
-unfolding sumAt halved inOdd
-half-sum [] x h = refl
-half-sum (t ∷ ts) x h =
-    let parts : (v : ℕ) → (cond (bit v (t .set)) (eqb (t .coeff % 2) 1) false ≡ false) × (inOdd v ts ≡ false) =
-    λ v. neither (cond (bit v (t .set)) (eqb (t .coeff % 2) 1) false) (inOdd v ts) (h v) in
-    omega (arith, half-term (t .set) (t .coeff) x (λ v. parts v .0), half-sum ts x (λ v. parts v .1))
-
--- where no coefficient is odd and no input of weight 1 or 2 differs
-module _
-    (φ : Phase)
-    (n : ℕ)
-    (even : (v : ℕ) → inOdd v (φ .terms) ≡ false)
-    (one : firstDiffering φ (weight 0 1 n) ≡ none)
-    (two : firstDiffering φ (weight 0 2 n) ≡ none) where
-  -- none of weight up to 2 differs
-  up-to-two : (k : ℕ) → k ≤ 2 → firstDiffering φ (weight 0 k n) ≡ none
-  unfolding weight firstSuch
-  up-to-two zero l = rw (eq-eqb (phaseAt φ 0 % 8) (phaseAt φ 0 % 8) refl)
-  up-to-two (suc zero) l = one
-  up-to-two (suc (suc zero)) l = two
-  up-to-two (suc (suc (suc k))) l = absurd (omega arith)
-
-  -- at inputs of weight up to 2 the halves add a multiple of 4
-  halves-small : (v : ℕ) → v < 2 ^ n → Clear 0 v → ones n v ≤ 2 → 4 ∣ sumAt (halved (φ .terms)) v
-  unfolding phaseAt
-  halves-small v l c o =
-      let member : Among v (weight 0 (ones n v) n) = weight-counts 0 (ones n v) n v .1 (l, c, refl) in
-      let passed : differing φ v ≡ false = firstSuch-none (differing φ) (weight 0 (ones n v) n) (up-to-two (ones n v) o) v member in
-      let same : phaseAt φ v % 8 ≡ phaseAt φ 0 % 8 = eqb-true _ _ (not-false _ passed) in
-      let multiple : 8 ∣ sumAt (φ .terms) v = dvd-of-mod-eq-zero 8 (omega (arith, same, sum-zero (φ .terms))) in
-      dvd-of-mul-dvd-mul-left {k = 2} 4 (omega arith) (rw (half-sum (φ .terms) v even) at multiple)
-
-  -- where they do, the phase is that at input 0
-  same-if : (v : ℕ) → 4 ∣ sumAt (halved (φ .terms)) v → phaseAt φ v % 8 ≡ phaseAt φ 0 % 8
-  unfolding phaseAt
-  same-if v d =
-      let multiple : 8 ∣ sumAt (φ .terms) v = rw (half-sum (φ .terms) v even) (mul-dvd-mul-left 4 2 d) in
-      omega (arith, mod-eq-zero-of-dvd 8 multiple, sum-zero (φ .terms))
-
-  -- so everywhere, and none of weight 3 differs
-  weight-two-enough : firstDiffering φ (weight 0 3 n) ≡ none
-  weight-two-enough = go (firstDiffering φ (weight 0 3 n)) refl
-    where
-      go : (o : Option ℕ) → firstDiffering φ (weight 0 3 n) ≡ o → firstDiffering φ (weight 0 3 n) ≡ none
-      go none e = e
-      go (some v) e =
-          let found : Among v (weight 0 3 n) × (differing φ v ≡ true) = firstSuch-some (differing φ) (weight 0 3 n) v e in
-          let at : (v < 2 ^ n) × Clear 0 v × (ones n v ≡ 3) = weight-counts 0 3 n v .0 (found .0) in
-          let halves : 4 ∣ sumAt (halved (φ .terms)) v = weight-enough 0 n v (at .0) (at .1) 2 (halved (φ .terms)) halves-small in
-          absurd (eqb-false _ _ (not-true _ (found .1)) (same-if v halves))
+    go :
+        firstDiffering φ (beside w (suc k) n ++ beside (w + 2 ^ n) k n) ≡ none
+        → (i < n → firstDiffering φ (beside w (suc k) n) ≡ none → firstDiffering φ (beside (w + 2 ^ i) k i) ≡ none)
+        → (suc i ≡ suc n) ⊎ (suc i < suc n)
+        → firstDiffering φ (beside (w + 2 ^ i) k i) ≡ none
+    go parts ih (inl e) =
+        let same : i ≡ n = omega arith in
+        rw same (none-right φ (beside w (suc k) n) _ parts)
+    go parts ih (inr b) = ih (omega arith) (none-left φ (beside w (suc k) n) _ parts)
 
 -- the answers of weight 1, then 2, then 3
 module _ (φ : Phase) (n one : ℕ) (first : inputOf one ≡ firstDiffering φ (weight 0 1 n)) where
@@ -251,6 +210,10 @@ module _ (φ : Phase) (n one : ℕ) (first : inputOf one ≡ firstDiffering φ (
 
     -- where there is none of weight 2 either
     module _ (zero-two : two ≡ 0) where
+      -- no input of weight 1 or 2 differs
+      pub agreed : AgreesToTwo φ n
+      agreed = (answer-zero φ (weight 0 1 n) one zero-one first, answer-zero φ (weight 0 2 n) two zero-two second)
+
       -- the answer is that of weight 3
       pub first-of-three : (x : ℕ) → inputOf x ≡ firstDiffering φ (weight 0 3 n) → inputOf x ≡ firstDiffering φ (candidates 0 n)
       first-of-three x third =
@@ -258,17 +221,3 @@ module _ (φ : Phase) (n one : ℕ) (first : inputOf one ≡ firstDiffering φ (
           ∙ sym
           (after-none φ (weight 0 1 n ++ weight 0 2 n) (weight 0 3 n)
           (answer-zero φ (weight 0 1 n ++ weight 0 2 n) two zero-two both))
-
-      -- which is none if no variable is in a term of odd coefficient
-      pub first-of-none :
-          (mask : ℕ)
-          → mask ≡ 0
-          → ((v : ℕ) → bit v mask ≡ inOdd v (φ .terms))
-          → inputOf 0 ≡ firstDiffering φ (candidates 0 n)
-      unfolding inputOf
-      first-of-none mask z odd =
-          first-of-three 0
-          (sym
-          (weight-two-enough φ n (λ v. sym (odd v) ∙ (ap (λ (m : ℕ). bit v m) z ∙ bit-zero v))
-          (answer-zero φ (weight 0 1 n) one zero-one first)
-          (answer-zero φ (weight 0 2 n) two zero-two second)))

@@ -9,10 +9,12 @@ use lib.ListN.{length}
 use Rattle.record_format.specs.Gate.{Gate}
 use Rattle.record_format.specs.Reading.{accepted, read}
 use Rattle.phase_sum_meaning.specs.Parity.{Parity, rest}
+use Rattle.phase_sum_meaning.specs.Phase.{Phase}
 use Rattle.phase_sum_meaning.specs.Building.{PathSum}
 use Rattle.phase_sum_meaning.specs.Stepping.{replace, takeOut, turned, kindOf, sum, turn, constraint, constrained}
 use Rattle.phase_sum_types.specs.Workspace.{setOf, parityOf, Lent, members, sumOf, Sized}
 use Rattle.comparison_meaning.specs.Reduction as reduction
+use Rattle.comparison_meaning.specs.Verdict.{weight, firstDiffering}
 use Rattle.comparison_types.specs.Call.{PairFault, faultOf}
 use Rattle.phase_sum_types.specs.declared.Sum.{Sum}
 use Rattle.phase_sum_types.specs.declared.Parity.{Parity as ParityWord}
@@ -119,6 +121,10 @@ pub record ReducesEnd (e r : End) (l l′ : Lent) : Type 0 where
 unfoldable pub inputOf : ℕ → Option ℕ
 inputOf zero = none
 inputOf (suc x) = some (suc x)
+
+-- no input of weight 1 or 2 has another phase than input 0
+abbrev pub AgreesToTwo : Phase → ℕ → Type 0
+AgreesToTwo φ n = (firstDiffering φ (weight 0 1 n) ≡ none) × (firstDiffering φ (weight 0 2 n) ≡ none)
 
 -- a list is accepted, on n qubits and with g gates
 pub record AcceptedWith (n g : ℕ) (s : List ℕ) : Type 0 where

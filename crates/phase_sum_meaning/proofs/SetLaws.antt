@@ -62,7 +62,7 @@ unfolding _△_ xorUpTo
     rw (eqb·suc-zero s, xorUpTo) (rw (xor-count s (suc s / 2) (suc s / 2) (r / 2) (half-le (omega arith)) (omega arith)))
 
 -- the lowest bit of a sum
-sum-bit : (s r : ℕ) → eqb ((s + r) % 2) 1 ≡ xor (eqb (s % 2) 1) (eqb (r % 2) 1)
+pub sum-bit : (s r : ℕ) → eqb ((s + r) % 2) 1 ≡ xor (eqb (s % 2) 1) (eqb (r % 2) 1)
 unfolding xor
 sum-bit s r = go (eqb (s % 2) 1) (eqb (r % 2) 1) refl refl
   where

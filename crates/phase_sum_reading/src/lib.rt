@@ -1,5 +1,5 @@
-// The phase-sum layer, reading: what a step goes by, namely which variables are in terms of odd coefficient, and the C and L of a variable.
-// Document 01, "Reducing it".
+// The phase-sum layer, reading: what a step goes by, namely which variables are in terms of odd coefficient, and the C and L of a variable;
+// and what the search goes by at three qubits, namely the terms of odd coefficient that hold two. Document 01, "Reducing it".
 ghost use mathlib.Core.Path.{_≡_};
 ghost use Prim.Native.Nat.{ℕ, _+_, _/_, _%_, _<_, _≤_};
 ghost use mathlib.Core.Bool.{cond};
@@ -10,6 +10,7 @@ ghost use Rattle.phase_sum_meaning.specs.Parity.{of};
 ghost use Rattle.phase_sum_meaning.specs.Phase.{inOdd};
 ghost use Rattle.phase_sum_meaning.specs.Stepping.{outOf, halfSum, oddHalves};
 ghost use Rattle.phase_sum_meaning.specs.Room.{mostVariables};
+ghost use Rattle.phase_sum_types.specs.Inner.{oddBoth};
 ghost use Rattle.phase_sum_types.specs.Workspace.{setOf, held};
 use phase_sum_sets::empty;
 use phase_sum_sets::exclusive_or;
@@ -42,6 +43,34 @@ pub fn odd_mask(sets: &[u64], coeffs: &[u8], count: usize) -> Set
         i += 1;
     }
     mask
+}
+
+// A term's set where it holds both variables and its coefficient is odd, else the empty set.
+fn odd_if_both(set: Set, coeff: u8, i: u32, j: u32) -> Set
+    requires { ⌜ (i < mostVariables) × (j < mostVariables) ⌝ }
+    ensures { λ r. ⌜ setOf r ≡ cond (bit i (setOf set)) (cond (bit j (setOf set)) (cond (eqb (coeff % 2) 1) (setOf set) 0) 0) 0 ⌝ }
+{
+    if holds(set, i) {
+        if holds(set, j) {
+            return odd_set(set, coeff);
+        }
+        return empty();
+    }
+    empty()
+}
+
+// The exclusive or of the sets of the terms of odd coefficient that hold both variables.
+pub fn odd_both(sets: &[u64], coeffs: &[u8], count: usize, i: u32, j: u32) -> Set
+    requires { ⌜ (i < mostVariables) × (j < mostVariables) × (count ≤ length (now sets)) × (count ≤ length (now coeffs)) ⌝ }
+    ensures { λ r. ⌜ setOf r ≡ oddBoth i j (held count (now (sets .entry)) (now (coeffs .entry))) ⌝ }
+{
+    let mut both = empty();
+    let mut t = 0;
+    while t < count {
+        both = exclusive_or(both, odd_if_both(load(sets, t), coeffs[t], i, j));
+        t += 1;
+    }
+    both
 }
 
 // The C and L of a variable y: document 01, "Reducing it".

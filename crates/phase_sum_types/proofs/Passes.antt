@@ -21,7 +21,7 @@ use Rattle.phase_sum_meaning.specs.Stepping.{replace, outOf, coeffs, oddHalves,
 use Rattle.phase_sum_types.specs.Workspace.{zipTerms, held, zipWires, setsOf, coeffsOf, over, merged, phaseOf, alone}
 use Rattle.phase_sum_types.specs.Workspace.{Stored, Phased, Rebuilt}
 use Rattle.phase_sum_types.specs.Unmerged.{phaseTerm}
-use Rattle.phase_sum_types.specs.Inner.{sentTo}
+use Rattle.phase_sum_types.specs.Inner.{sentTo, oddBoth}
 use Rattle.phase_sum_types.specs.declared.Phase as declared
 use Rattle.phase_sum_meaning.proofs.SetLaws.{△-assoc, △-comm}
 use Rattle.phase_sum_meaning.proofs.ParityLaws.{replaceIn-absent}
@@ -280,7 +280,7 @@ joined-out y z w p {ss = ss} {cs = cs} {ss₁ = ss₁} a b out done =
     })
 
 -- a variable is in what is a set where b holds, else the empty set
-odd-bit : (v s : ℕ) (b : Bool) → cond (bit v s) b false ≡ bit v (cond b s 0)
+pub odd-bit : (v s : ℕ) (b : Bool) → cond (bit v s) b false ≡ bit v (cond b s 0)
 odd-bit v s true = go (bit v s)
   where
     go : (a : Bool) → cond a true false ≡ a
@@ -314,3 +314,12 @@ pub oddHalves-more :
 unfolding oddHalves
 oddHalves-more y [] t = △-comm _ _
 oddHalves-more y (u ∷ us) t = rw (oddHalves-more y us t) (sym (△-assoc _ _ _))
+
+-- what the odd terms that hold i and j have in common, one term more at the end
+pub oddBoth-more :
+    (i j : ℕ) (ts : List Term) (t : Term) →
+    oddBoth i j (ts ++ t ∷ [])
+    ≡ oddBoth i j ts △ cond (bit i (t .set)) (cond (bit j (t .set)) (cond (eqb (t .coeff % 2) 1) (t .set) 0) 0) 0
+unfolding oddBoth
+oddBoth-more i j [] t = △-comm _ _
+oddBoth-more i j (u ∷ us) t = rw (oddBoth-more i j us t) (sym (△-assoc _ _ _))

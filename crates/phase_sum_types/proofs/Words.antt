@@ -1,19 +1,20 @@
--- The machine's words as sets of variables: its shifts, its bit operations, and the parity of a word's bits, byte by byte.
+-- The machine's words as sets of variables: its shifts, its bit operations, and the parity of its bits by their count.
 -- Assumes nothing.
 use mathlib.Core.Path.{_≡_, refl, sym, _∙_, ap}
 use mathlib.Core.Bool.{Bool, true, false, _&&_, _||_, xor, and-self}
 use Prim.Native.Nat.{ℕ, zero, suc, _+_, _*_, _/_, _%_, _^_, _<_, min, max}
-use native.Mathlib.Nat.{mod-eq-of-lt, one-mul, div-one, mod-one, div-div-eq-div-mul, pow-suc, pow-succ'}
+use native.Mathlib.Nat.{mod-eq-of-lt, mod-mod, one-mul, div-one, mod-one, div-div-eq-div-mul, pow-suc, pow-succ'}
 use native.Mathlib.Omega.{arith}
 use lib.Arith.{bin-ind, mod-mul}
 use lib.Pow.{pow-lt, pow-pos}
 use lib.Bits.{bitAnd, bitOr, bitXor, differ, and-step, or-step, xor-step, and-mask, and-comm}
+use lib.Count.{ones, ones-step}
 use lib.Dec.{eqb}
 use Rattle.amplitude.specs.Bits.{digit, bit}
 use Rattle.amplitude.proofs.BitLaws.{digit-below, digit-eqb, rest-below, bits-ext}
 use Rattle.amplitude.proofs.XorLaws.{xor-falseˡ, xor-assoc}
 use Rattle.phase_sum_meaning.specs.Sets.{_△_, single, parity}
-use Rattle.phase_sum_meaning.proofs.SetLaws.{bit-△, parity-step, parity-empty}
+use Rattle.phase_sum_meaning.proofs.SetLaws.{sum-bit, bit-△, parity-step, parity-empty}
 
 -- 1 shifted by the number of a variable is the set of that variable
 pub shifted-one : (v : ℕ) → v < 64 → (1 * 2 ^ v) % 2 ^ 64 ≡ single v
@@ -30,7 +31,7 @@ shifted-bit zero s = rw div-one
 shifted-bit (suc v) s = rw (← high-half) (shifted-bit v (s / 2))
 
 -- a digit tested for 1 gives its bit back
-pub digit-test : (x : Bool) → eqb (digit x) 1 ≡ x
+digit-test : (x : Bool) → eqb (digit x) 1 ≡ x
 digit-test true = refl
 digit-test false = refl
 
@@ -87,7 +88,7 @@ xor-sets a b =
     bits-ext (bitXor a b) (a △ b) (λ v. bit-op bitXor differ xor xor-step differ-digits v a b ∙ sym (bit-△ v a b))
 
 -- the parity of a set at an input is that of the bits that both have
-pub parity-and : (s x : ℕ) → parity s x ≡ parity (bitAnd s x) (bitAnd s x)
+parity-and : (s x : ℕ) → parity s x ≡ parity (bitAnd s x) (bitAnd s x)
 parity-and =
     bin-ind
     (λ s. (x : ℕ) → parity s x ≡ parity (bitAnd s x) (bitAnd s x))
@@ -125,14 +126,15 @@ parity-cut (suc k) s x =
     (parity-step s x, parity-cut k (s / 2) (x / 2), high-half k s, high-half k x, parity-step (s % 2 ^ suc k) (x % 2 ^ suc k))
     (simp (low-half, low-bit) (sym (xor-assoc _ _ _)))
 
--- the parity of the eight lowest variables at a byte is that of the byte's own bits
-byte-bits : (b : ℕ) → b < 256 → parity 255 b ≡ parity b b
-byte-bits b l = parity-and 255 b ∙ ap (λ (m : ℕ). parity m m) (and-comm 255 b ∙ (and-mask b 8 ∙ mod-eq-of-lt l))
+-- the parity of a word's own bits is that of how many are 1
+parity-ones : (x : ℕ) → eqb (ones x % 2) 1 ≡ parity x x
+unfolding ones bit
+parity-ones =
+    bin-ind
+    (λ x. eqb (ones x % 2) 1 ≡ parity x x)
+    (sym (parity-empty 0))
+    (λ x h. rw (parity-step x x, and-self, ← h, ones-step x, sum-bit (x % 2) (ones (x / 2)), mod-mod x 2))
 
--- the parity of a word's bits by its lowest byte and the rest, on top of what is counted already
-pub parity-byte : (odd : Bool) (x : ℕ)
-    → xor (xor odd (parity 255 (x % 256))) (parity (x / 256) (x / 256)) ≡ xor odd (parity x x)
-parity-byte odd x =
-    rw
-    (byte-bits (x % 256) (omega arith), parity-cut 8 x x)
-    (xor-assoc odd (parity (x % 256) (x % 256)) (parity (x / 256) (x / 256)))
+-- the parity of a set at an input, by the count of the bits that both have
+pub parity-counted : (s x : ℕ) → eqb (ones (bitAnd s x) % 2) 1 ≡ parity s x
+parity-counted s x = parity-ones (bitAnd s x) ∙ sym (parity-and s x)

@@ -1,13 +1,14 @@
--- `comparison_judging::searching::search` meets its contract: the answer is that of the first weight that has one; where no coefficient is odd and
+-- `comparison_searching::search` meets its contract: the answer is that of the first weight that has one; where no coefficient is odd and
 -- no input of weight 1 or 2 differs, none of weight 3 does.
 -- Assumes nothing.
 use mathlib.Core.Path.{sym, _∙_}
 use native.Mathlib.Omega.{arith}
 use borrow.Author.Tests.{eqb-true}
 use borrow.Author.Needs.{needs}
-use Rattle.comparison_types.proofs.SearchLaws.{first-of-one, first-of-two, first-of-three, first-of-none}
-use Rattle.comparison_judging.proofs.searching.search.Statement.{statement}
-use Rattle.comparison_judging.proofs.searching.search.Tie as tie
+use Rattle.comparison_types.proofs.SearchLaws.{first-of-one, first-of-two, first-of-three, agreed}
+use Rattle.comparison_types.proofs.TripleLaws.{none-of-three}
+use Rattle.comparison_searching.proofs.search.Statement.{statement}
+use Rattle.comparison_searching.proofs.search.Tie as tie
 
 weight-one-requires : tie.Need-weight-one-requires
 weight-one-requires c κs = search needs
@@ -32,12 +33,18 @@ returns-3 : tie.Need-returns-3
 returns-3 c =
     let at-empty = c .before in
     let at-mask = at-empty .before in
-    first-of-none _ _ _ (at-mask .before .before .before .before .weight-one .ensures) (omega arith) _
-    (at-mask .before .before .weight-two .ensures) (omega arith) _
-    (eqb-true _ 0 (sym (at-empty .is-empty .ensures) ∙ c .if3 .taken)) (at-mask .odd-mask .ensures)
+    let at-weight-two = at-mask .before .before in
+    let one = at-weight-two .before .before .weight-one .ensures in
+    let two = at-weight-two .weight-two .ensures in
+    first-of-three _ _ _ one (omega arith) _ two (omega arith) _
+    (none-of-three _ _ (agreed _ _ _ one (omega arith) _ two (omega arith)) _
+    (eqb-true _ 0 (sym (at-empty .is-empty .ensures) ∙ c .if3 .taken)) (at-mask .odd-mask .ensures))
 
 weight-three-requires : tie.Need-weight-three-requires
-weight-three-requires c κs = search needs
+weight-three-requires c κs =
+    let at-weight-two = c .before .before .before .before in
+    let one = at-weight-two .before .before .weight-one .ensures in
+    (search needs, search needs, search needs, agreed _ _ _ one (omega arith) _ (at-weight-two .weight-two .ensures) (omega arith))
 
 returns-4 : tie.Need-returns-4
 returns-4 c =

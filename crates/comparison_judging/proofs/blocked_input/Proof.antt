@@ -1,4 +1,4 @@
--- `comparison_judging::judging::blocked_input` meets its contract: the lowest variable of the set below n is its lowest qubit, and below 16, so that the shifted 1 fits.
+-- `comparison_judging::blocked_input` meets its contract: the lowest variable of the set below n is its lowest qubit, and below 16, so that the shifted 1 fits.
 -- Assumes nothing.
 use mathlib.Core.Path.{_≡_, sym, _∙_, ap}
 use Prim.Native.Nat.{_<_}
@@ -11,8 +11,8 @@ use Rattle.phase_sum_meaning.proofs.VariableLaws.{firstSuch-some, from-among}
 use Rattle.comparison_meaning.specs.Verdict.{blockedInput}
 use Rattle.phase_sum_types.specs.Workspace.{setOf, foundOf}
 use Rattle.comparison_types.proofs.VerdictLaws.{lowest-below}
-use Rattle.comparison_judging.proofs.judging.blocked_input.Statement.{statement}
-use Rattle.comparison_judging.proofs.judging.blocked_input.Tie as tie
+use Rattle.comparison_judging.proofs.blocked_input.Statement.{statement}
+use Rattle.comparison_judging.proofs.blocked_input.Tie as tie
 
 -- the lowest variable found is the lowest qubit of the set
 qubit :

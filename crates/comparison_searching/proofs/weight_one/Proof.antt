@@ -1,4 +1,4 @@
--- `comparison_judging::searching::weight_one` meets its contract. The loop's invariant: no input with one of the first i qubits differs. The measure is
+-- `comparison_searching::weight_one` meets its contract. The loop's invariant: no input with one of the first i qubits differs. The measure is
 -- how many qubits are left.
 -- Assumes nothing.
 use mathlib.Core.Path.{_≡_, refl, sym, _∙_}
@@ -9,8 +9,8 @@ use lib.Pow.{pow-pos}
 use borrow.Author.Needs.{needs}
 use Rattle.phase_sum_types.specs.Workspace.{phaseOf}
 use Rattle.comparison_types.proofs.SearchLaws.{firstBeside, beside-start, pass-itself, pass-more, found-itself, found-more, answer-none, answer-found}
-use Rattle.comparison_judging.proofs.searching.weight_one.Statement.{statement}
-use Rattle.comparison_judging.proofs.searching.weight_one.Tie as tie
+use Rattle.comparison_searching.proofs.weight_one.Statement.{statement}
+use Rattle.comparison_searching.proofs.weight_one.Tie as tie
 
 abbrev Inv-loop : tie.InvT-loop
 Inv-loop sets coeffs phase n i₀ i = (i ≤ n) × (firstBeside (phaseOf phase sets coeffs) 0 1 i ≡ none)

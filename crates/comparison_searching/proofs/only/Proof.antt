@@ -1,10 +1,10 @@
--- `comparison_judging::searching::only` meets its contract: the shifted 1 fits, so it is the power of 2.
+-- `comparison_searching::only` meets its contract: the shifted 1 fits, so it is the power of 2.
 -- Assumes nothing.
 use native.Mathlib.Omega.{arith}
 use borrow.Author.Needs.{needs}
 use Rattle.phase_sum_types.proofs.Words.{shifted-one}
-use Rattle.comparison_judging.proofs.searching.only.Statement.{statement}
-use Rattle.comparison_judging.proofs.searching.only.Tie as tie
+use Rattle.comparison_searching.proofs.only.Statement.{statement}
+use Rattle.comparison_searching.proofs.only.Tie as tie
 
 shl-result : tie.Need-shl-result
 shl-result c = search needs

@@ -1,4 +1,4 @@
--- `comparison_judging::judging::searched` meets its contract: where pins and sums differ the verdict is different, else what the search found decides, and an input that it found fits 16 bits.
+-- `comparison_judging::searched` meets its contract: where pins and sums differ the verdict is different, else what the search found decides, and an input that it found fits 16 bits.
 -- Assumes nothing.
 use mathlib.Core.Path.{sym, _∙_}
 use mathlib.Core.Bool.{Bool}
@@ -12,8 +12,8 @@ use Rattle.comparison_meaning.specs.Reduction.{End}
 use Rattle.comparison_types.specs.Inner.{endOf, unblocked}
 use Rattle.comparison_types.proofs.VerdictLaws.{input-below, searched-uneven, searched-found, searched-none}
 use borrow.Author.Needs.{needs}
-use Rattle.comparison_judging.proofs.judging.searched.Statement.{statement}
-use Rattle.comparison_judging.proofs.judging.searched.Tie as tie
+use Rattle.comparison_judging.proofs.searched.Statement.{statement}
+use Rattle.comparison_judging.proofs.searched.Tie as tie
 
 -- the end that the arguments stand for
 abbrev ended : tie.Start → List ℕ → List Bool → ParityWord → End

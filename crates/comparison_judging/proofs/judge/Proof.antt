@@ -1,4 +1,4 @@
--- `comparison_judging::judging::judge` meets its contract, by its cases: blocked, variables left, none left.
+-- `comparison_judging::judge` meets its contract, by its cases: blocked, variables left, none left.
 -- Assumes nothing.
 use mathlib.Core.Path.{_≡_, sym, _∙_}
 use native.Mathlib.Omega.{arith}
@@ -9,8 +9,8 @@ use Rattle.phase_sum_types.specs.Workspace.{setOf, slices, members}
 use Rattle.comparison_meaning.specs.Verdict.{judge, searched}
 use Rattle.comparison_types.proofs.VerdictLaws.{members-empty}
 use borrow.Author.Needs.{needs}
-use Rattle.comparison_judging.proofs.judging.judge.Statement.{statement}
-use Rattle.comparison_judging.proofs.judging.judge.Tie as tie
+use Rattle.comparison_judging.proofs.judge.Statement.{statement}
+use Rattle.comparison_judging.proofs.judge.Tie as tie
 
 blocked-input-requires : tie.Need-blocked-input-requires
 blocked-input-requires c κs = search needs

@@ -1,4 +1,4 @@
--- `comparison_judging::searching::weight_two` meets its contract. The outer loop's invariant: no input with two of the first i qubits differs. The
+-- `comparison_searching::weight_two` meets its contract. The outer loop's invariant: no input with two of the first i qubits differs. The
 -- inner one's: nor one with qubit i and one of the first j. The measures are how many qubits are left.
 -- Assumes nothing.
 use mathlib.Core.Path.{_≡_, refl, sym, _∙_}
@@ -9,8 +9,8 @@ use lib.Pow.{pow-pos}
 use borrow.Author.Needs.{needs}
 use Rattle.phase_sum_types.specs.Workspace.{phaseOf}
 use Rattle.comparison_types.proofs.SearchLaws.{power-small, firstBeside, beside-start, pass-itself, pass-more, found-itself, found-more, answer-none, answer-found}
-use Rattle.comparison_judging.proofs.searching.weight_two.Statement.{statement}
-use Rattle.comparison_judging.proofs.searching.weight_two.Tie as tie
+use Rattle.comparison_searching.proofs.weight_two.Statement.{statement}
+use Rattle.comparison_searching.proofs.weight_two.Tie as tie
 
 abbrev Inv-loop2 : tie.InvT-loop2
 Inv-loop2 sets coeffs phase n i high j₀ j = (j ≤ i) × (firstBeside (phaseOf phase sets coeffs) high 1 j ≡ none)

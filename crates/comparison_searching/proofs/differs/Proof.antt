@@ -1,9 +1,9 @@
--- `comparison_judging::searching::differs` meets its contract: at input 0 the terms add nothing, so the phase there is the constant.
+-- `comparison_searching::differs` meets its contract: at input 0 the terms add nothing, so the phase there is the constant.
 -- Assumes nothing.
 use borrow.Author.Needs.{needs}
 use Rattle.comparison_types.proofs.SearchLaws.{differs-from}
-use Rattle.comparison_judging.proofs.searching.differs.Statement.{statement}
-use Rattle.comparison_judging.proofs.searching.differs.Tie as tie
+use Rattle.comparison_searching.proofs.differs.Statement.{statement}
+use Rattle.comparison_searching.proofs.differs.Tie as tie
 
 phase-at-requires : tie.Need-phase-at-requires
 phase-at-requires c κs = search needs

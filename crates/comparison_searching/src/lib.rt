@@ -1,5 +1,5 @@
-// The search over the inputs of weight 1, 2 and 3, lower numbers first, for one whose phase differs from that of input 0. Document 01,
-// "Reducing it". An answer of 0 is none: input 0 does not differ from itself.
+// The comparison layer, searching: the inputs of weight 1, 2 and 3, lower numbers first, for one whose phase differs from that of input 0.
+// Document 01, "Reducing it". An answer of 0 is none: input 0 does not differ from itself.
 ghost use mathlib.Core.Path.{_≡_};
 ghost use Prim.Native.Nat.{_%_, _<_, _≤_};
 ghost use mathlib.Core.Bool.{not};
@@ -9,8 +9,10 @@ ghost use Rattle.phase_sum_meaning.specs.Sets.{single};
 ghost use Rattle.phase_sum_meaning.specs.Phase.{phaseAt};
 ghost use Rattle.comparison_meaning.specs.Verdict.{weight, candidates, firstDiffering};
 ghost use Rattle.phase_sum_types.specs.Workspace.{phaseOf};
-ghost use Rattle.comparison_types.specs.Inner.{inputOf};
+ghost use Rattle.comparison_types.specs.Inner.{inputOf, AgreesToTwo};
+use phase_sum_reading::odd_both;
 use phase_sum_reading::odd_mask;
+use phase_sum_sets::holds;
 use phase_sum_sets::is_empty;
 use phase_sum_terms::terms::phase_at;
 use phase_sum_types::Phase;
@@ -68,9 +70,11 @@ fn weight_two(sets: &[u64], coeffs: &[u8], phase: Phase, n: u32) -> u64
     0
 }
 
-// The inputs of weight 3, the highest qubit outside; all three loops are left at the first find.
+// The inputs of weight 3, the highest qubit outside, where none of weight 1 or 2 differs; all three loops are left at the first find. With
+// qubits i, j and k an input differs exactly if an odd number of terms of odd coefficient hold all three: one pass over the terms for
+// each i and j shows it for every k.
 fn weight_three(sets: &[u64], coeffs: &[u8], phase: Phase, n: u32) -> u64
-    requires { ⌜ (n ≤ 16) × (phase .count ≤ length (now sets)) × (phase .count ≤ length (now coeffs)) ⌝ }
+    requires { ⌜ (n ≤ 16) × (phase .count ≤ length (now sets)) × (phase .count ≤ length (now coeffs)) × AgreesToTwo (phaseOf phase (now sets) (now coeffs)) n ⌝ }
     ensures { λ r. ⌜ inputOf r ≡ firstDiffering (phaseOf phase (now (sets .entry)) (now (coeffs .entry))) (weight 0 3 n) ⌝ }
 {
     let mut found = 0u64;
@@ -80,11 +84,11 @@ fn weight_three(sets: &[u64], coeffs: &[u8], phase: Phase, n: u32) -> u64
         let mut j = 0u32;
         while j < i {
             let pair = high + only(j);
+            let both = odd_both(sets, coeffs, phase.count, i, j);
             let mut k = 0u32;
             while k < j {
-                let input = pair + only(k);
-                if differs(sets, coeffs, phase, input) {
-                    found = input;
+                if holds(both, k) {
+                    found = pair + only(k);
                     break 'search;
                 }
                 k += 1;

@@ -1,11 +1,11 @@
--- `comparison_judging::judging::outcome` meets its contract: the variables left are few enough for a byte.
+-- `comparison_judging::outcome` meets its contract: the variables left are few enough for a byte.
 -- Assumes nothing.
 use native.Mathlib.Omega.{arith}
 use borrow.Author.Needs.{needs}
 use Rattle.phase_sum_types.specs.Workspace.{setOf}
 use Rattle.phase_sum_types.proofs.Members.{members-few}
-use Rattle.comparison_judging.proofs.judging.outcome.Statement.{statement}
-use Rattle.comparison_judging.proofs.judging.outcome.Tie as tie
+use Rattle.comparison_judging.proofs.outcome.Statement.{statement}
+use Rattle.comparison_judging.proofs.outcome.Tie as tie
 
 count-requires : tie.Need-count-requires
 count-requires c κs = search needs
