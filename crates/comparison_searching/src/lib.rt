@@ -8,14 +8,16 @@ ghost use lib.Dec.{eqb};
 ghost use Rattle.phase_sum_meaning.specs.Sets.{single};
 ghost use Rattle.phase_sum_meaning.specs.Phase.{phaseAt};
 ghost use Rattle.comparison_meaning.specs.Verdict.{weight, candidates, firstDiffering};
-ghost use Rattle.phase_sum_types.specs.Workspace.{phaseOf};
+ghost use Rattle.phase_sum_types.specs.Inner.{OddMask};
+ghost use Rattle.phase_sum_types.specs.Workspace.{setOf, held, phaseOf};
 ghost use Rattle.comparison_types.specs.Inner.{inputOf, AgreesToTwo};
-use phase_sum_reading::odd_both;
+use phase_sum_reading::odd_both_in;
 use phase_sum_reading::odd_mask;
 use phase_sum_sets::holds;
 use phase_sum_sets::is_empty;
 use phase_sum_terms::terms::phase_at;
 use phase_sum_types::Phase;
+use phase_sum_types::Set;
 
 // The input that holds qubit q alone.
 fn only(q: u32) -> u64
@@ -72,9 +74,9 @@ fn weight_two(sets: &[u64], coeffs: &[u8], phase: Phase, n: u32) -> u64
 
 // The inputs of weight 3, the highest qubit outside, where none of weight 1 or 2 differs; all three loops are left at the first find. With
 // qubits i, j and k an input differs exactly if an odd number of terms of odd coefficient hold all three: one pass over the terms for
-// each i and j shows it for every k.
-fn weight_three(sets: &[u64], coeffs: &[u8], phase: Phase, n: u32) -> u64
-    requires { ⌜ (n ≤ 16) × (phase .count ≤ length (now sets)) × (phase .count ≤ length (now coeffs)) × AgreesToTwo (phaseOf phase (now sets) (now coeffs)) n ⌝ }
+// each i and j shows it for every k. The mask has the variables that are in such terms.
+fn weight_three(sets: &[u64], coeffs: &[u8], phase: Phase, mask: Set, n: u32) -> u64
+    requires { ⌜ (n ≤ 16) × (phase .count ≤ length (now sets)) × (phase .count ≤ length (now coeffs)) × AgreesToTwo (phaseOf phase (now sets) (now coeffs)) n × OddMask (setOf mask) (held (phase .count) (now sets) (now coeffs)) ⌝ }
     ensures { λ r. ⌜ inputOf r ≡ firstDiffering (phaseOf phase (now (sets .entry)) (now (coeffs .entry))) (weight 0 3 n) ⌝ }
 {
     let mut found = 0u64;
@@ -84,7 +86,7 @@ fn weight_three(sets: &[u64], coeffs: &[u8], phase: Phase, n: u32) -> u64
         let mut j = 0u32;
         while j < i {
             let pair = high + only(j);
-            let both = odd_both(sets, coeffs, phase.count, i, j);
+            let both = odd_both_in(mask, sets, coeffs, phase.count, i, j);
             let mut k = 0u32;
             while k < j {
                 if holds(both, k) {
@@ -113,8 +115,9 @@ pub fn search(sets: &[u64], coeffs: &[u8], phase: Phase, n: u32) -> u64
     if two != 0 {
         return two;
     }
-    if is_empty(odd_mask(sets, coeffs, phase.count)) {
+    let mask = odd_mask(sets, coeffs, phase.count);
+    if is_empty(mask) {
         return 0;
     }
-    weight_three(sets, coeffs, phase, n)
+    weight_three(sets, coeffs, phase, mask, n)
 }

@@ -3,7 +3,7 @@
 -- So where no coefficient is odd, no input of weight 3 differs.
 -- Assumes nothing.
 use mathlib.Core.Path.{_≡_, refl, sym, _∙_, ap}
-use mathlib.Core.Logic.{⊎-elim}
+use mathlib.Core.Logic.{inl, ⊎-elim}
 use Prim.Native.Nat.{ℕ, suc, _+_, _*_, _/_, _%_, _^_, _<_}
 use native.Mathlib.Nat.{zero-add, add-zero, add-assoc, lt-trans, eq-or-lt-of-le, pow-succ'}
 use native.Mathlib.Omega.{arith}
@@ -20,8 +20,8 @@ use Rattle.phase_sum_meaning.specs.Sets.{_△_}
 use Rattle.phase_sum_meaning.specs.Phase.{Term, Phase, sumAt, phaseAt, inOdd}
 use Rattle.phase_sum_meaning.specs.Stepping.{coeffs}
 use Rattle.phase_sum_meaning.proofs.SetLaws.{sum-bit, bit-△, △-idl}
-use Rattle.phase_sum_types.specs.Inner.{oddBoth}
-use Rattle.phase_sum_types.proofs.Passes.{odd-bit}
+use Rattle.phase_sum_types.specs.Inner.{OddMask, oddBoth}
+use Rattle.phase_sum_types.proofs.Passes.{odd-bit, oddBoth-none}
 use Rattle.comparison_meaning.specs.Verdict.{weight, firstDiffering}
 use Rattle.comparison_meaning.proofs.Weight.{holding, sum-zero, sum-with, sum-alone}
 use Rattle.comparison_types.specs.Inner.{inputOf, AgreesToTwo}
@@ -51,26 +51,6 @@ odd-together i j k (t ∷ ts) = go (odd-together i j k ts) (bit i (t .set)) refl
     go ih true e true f = rw (e, f, bit-△, ← ih, ← odd-share k (t .set) (t .coeff)) (sum-bit (cond (bit k (t .set)) (t .coeff) 0) (coeffs k (holding j (holding i ts))))
     go ih true e false f = rw (e, f, △-idl) ih
     go ih false e b f = rw (e, △-idl) ih
-
--- where an or is false, both sides are
-neither : (a b : Bool) → a || b ≡ false → (a ≡ false) × (b ≡ false)
-neither true b h = absurd (true≢false h)
-neither false b h = (refl, h)
-
--- the exclusive or does not hold a variable that is in no term of odd coefficient
-none-together : (i j k : ℕ) (ts : List Term) → inOdd k ts ≡ false → bit k (oddBoth i j ts) ≡ false
-unfolding inOdd oddBoth
-none-together i j k [] h = bit-zero k
-none-together i j k (t ∷ ts) h =
-    let odd : Bool = eqb (t .coeff % 2) 1 in
-    let parts = neither (cond (bit k (t .set)) odd false) (inOdd k ts) h in
-    let out : bit k (cond odd (t .set) 0) ≡ false = sym (odd-bit k (t .set) odd) ∙ parts .0 in
-    rw (bit-△, none-together i j k ts (parts .1), go (cond odd (t .set) 0) (bit i (t .set)) (bit j (t .set)) out) (xor-falseʳ false)
-  where
-    go : (s : ℕ) (a b : Bool) → bit k s ≡ false → bit k (cond a (cond b s 0) 0) ≡ false
-    go s true true e = e
-    go s true false e = bit-zero k
-    go s false b e = bit-zero k
 
 -- the phase is that at input 0 where the terms add a multiple of 8
 same-multiple : (φ : Phase) (v : ℕ) → differing φ v ≡ false → sumAt (φ .terms) v ≡ 8 * (sumAt (φ .terms) v / 8)
@@ -166,7 +146,7 @@ module _ (φ : Phase) (n : ℕ) (agrees : AgreesToTwo φ n) where
 
   -- so none of weight 3 differs where no variable is in a term of odd coefficient
   pub none-of-three :
-      (mask : ℕ) → mask ≡ 0 → ((v : ℕ) → bit v mask ≡ inOdd v (φ .terms)) → inputOf 0 ≡ firstDiffering φ (weight 0 3 n)
+      (mask : ℕ) → mask ≡ 0 → OddMask mask (φ .terms) → inputOf 0 ≡ firstDiffering φ (weight 0 3 n)
   unfolding inputOf
   none-of-three mask z odd =
       sym
@@ -176,5 +156,5 @@ module _ (φ : Phase) (n : ℕ) (agrees : AgreesToTwo φ n) where
       pass-each φ (2 ^ i + 2 ^ j) 0 j (λ k kj.
       pass-itself φ (2 ^ i + 2 ^ j + 2 ^ k) k
       (three-differs i j k kj ji l
-      ∙ none-together i j k (φ .terms) (sym (odd k) ∙ (ap (λ (m : ℕ). bit k m) z ∙ bit-zero k))))))))
+      ∙ rw (oddBoth-none i j (φ .terms) (inl (sym (odd i) ∙ rw z (bit-zero i)))) (bit-zero k)))))))
       ∙ beside-none φ 3 n

@@ -1,16 +1,15 @@
 // The phase-sum layer, reading: what a step goes by, namely which variables are in terms of odd coefficient, and the C and L of a variable;
 // and what the search goes by at three qubits, namely the terms of odd coefficient that hold two. Document 01, "Reducing it".
 ghost use mathlib.Core.Path.{_≡_};
-ghost use Prim.Native.Nat.{ℕ, _+_, _/_, _%_, _<_, _≤_};
+ghost use Prim.Native.Nat.{_+_, _/_, _%_, _<_, _≤_};
 ghost use mathlib.Core.Bool.{cond};
 ghost use lib.ListN.{length};
 ghost use lib.Dec.{eqb};
 ghost use Rattle.amplitude.specs.Bits.{bit};
 ghost use Rattle.phase_sum_meaning.specs.Parity.{of};
-ghost use Rattle.phase_sum_meaning.specs.Phase.{inOdd};
 ghost use Rattle.phase_sum_meaning.specs.Stepping.{outOf, halfSum, oddHalves};
 ghost use Rattle.phase_sum_meaning.specs.Room.{mostVariables};
-ghost use Rattle.phase_sum_types.specs.Inner.{oddBoth};
+ghost use Rattle.phase_sum_types.specs.Inner.{OddMask, oddBoth};
 ghost use Rattle.phase_sum_types.specs.Workspace.{setOf, held};
 use phase_sum_sets::empty;
 use phase_sum_sets::exclusive_or;
@@ -34,7 +33,7 @@ fn odd_set(set: Set, coeff: u8) -> Set
 // The variables that are in terms of odd coefficient.
 pub fn odd_mask(sets: &[u64], coeffs: &[u8], count: usize) -> Set
     requires { ⌜ (count ≤ length (now sets)) × (count ≤ length (now coeffs)) ⌝ }
-    ensures { λ r. ⌜ ((v : ℕ) → bit v (setOf r) ≡ inOdd v (held count (now (sets .entry)) (now (coeffs .entry)))) ⌝ }
+    ensures { λ r. ⌜ OddMask (setOf r) (held count (now (sets .entry)) (now (coeffs .entry))) ⌝ }
 {
     let mut mask = empty();
     let mut i = 0;
@@ -60,7 +59,7 @@ fn odd_if_both(set: Set, coeff: u8, i: u32, j: u32) -> Set
 }
 
 // The exclusive or of the sets of the terms of odd coefficient that hold both variables.
-pub fn odd_both(sets: &[u64], coeffs: &[u8], count: usize, i: u32, j: u32) -> Set
+fn odd_both(sets: &[u64], coeffs: &[u8], count: usize, i: u32, j: u32) -> Set
     requires { ⌜ (i < mostVariables) × (j < mostVariables) × (count ≤ length (now sets)) × (count ≤ length (now coeffs)) ⌝ }
     ensures { λ r. ⌜ setOf r ≡ oddBoth i j (held count (now (sets .entry)) (now (coeffs .entry))) ⌝ }
 {
@@ -71,6 +70,20 @@ pub fn odd_both(sets: &[u64], coeffs: &[u8], count: usize, i: u32, j: u32) -> Se
         t += 1;
     }
     both
+}
+
+// The same with the mask of the variables in terms of odd coefficient: where it has not both, the terms need no pass.
+pub fn odd_both_in(mask: Set, sets: &[u64], coeffs: &[u8], count: usize, i: u32, j: u32) -> Set
+    requires { ⌜ (i < mostVariables) × (j < mostVariables) × (count ≤ length (now sets)) × (count ≤ length (now coeffs)) × OddMask (setOf mask) (held count (now sets) (now coeffs)) ⌝ }
+    ensures { λ r. ⌜ setOf r ≡ oddBoth i j (held count (now (sets .entry)) (now (coeffs .entry))) ⌝ }
+{
+    if holds(mask, i) {
+        if holds(mask, j) {
+            return odd_both(sets, coeffs, count, i, j);
+        }
+        return empty();
+    }
+    empty()
 }
 
 // The C and L of a variable y: document 01, "Reducing it".

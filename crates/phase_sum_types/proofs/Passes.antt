@@ -3,7 +3,8 @@
 -- at the end.
 -- Assumes nothing.
 use mathlib.Core.Path.{_≡_, refl, sym, ap, _∙_}
-use mathlib.Core.Bool.{Bool, true, false, cond, _||_, or-assoc, or-false}
+use mathlib.Core.Logic.{_⊎_, inl, inr, ⊎-map}
+use mathlib.Core.Bool.{Bool, true, false, cond, _||_, or-assoc, or-false, true≢false}
 use mathlib.Core.List.{List, [], _∷_, _++_, map, map-map, map-append}
 use Prim.Native.Nat.{ℕ, suc, _+_, _/_, _%_, _≤_, _<_}
 use native.Mathlib.Nat.{le-refl}
@@ -23,7 +24,7 @@ use Rattle.phase_sum_types.specs.Workspace.{Stored, Phased, Rebuilt}
 use Rattle.phase_sum_types.specs.Unmerged.{phaseTerm}
 use Rattle.phase_sum_types.specs.Inner.{sentTo, oddBoth}
 use Rattle.phase_sum_types.specs.declared.Phase as declared
-use Rattle.phase_sum_meaning.proofs.SetLaws.{△-assoc, △-comm}
+use Rattle.phase_sum_meaning.proofs.SetLaws.{△-assoc, △-comm, △-idl}
 use Rattle.phase_sum_meaning.proofs.ParityLaws.{replaceIn-absent}
 use Rattle.phase_sum_meaning.proofs.PhaseLaws.{length-rebuild}
 use Rattle.phase_sum_types.proofs.Storing.{length-held, setsOf-held, coeffsOf-held, held-more}
@@ -323,3 +324,33 @@ pub oddBoth-more :
 unfolding oddBoth
 oddBoth-more i j [] t = △-comm _ _
 oddBoth-more i j (u ∷ us) t = rw (oddBoth-more i j us t) (sym (△-assoc _ _ _))
+
+-- where an or is false, both sides are
+neither : (a b : Bool) → a || b ≡ false → (a ≡ false) × (b ≡ false)
+neither true b h = absurd (true≢false h)
+neither false b h = (refl, h)
+
+-- one of two variables is in no term of odd coefficient
+abbrev pub OneOut : ℕ → ℕ → List Term → Type 0
+OneOut i j ts = (inOdd i ts ≡ false) ⊎ (inOdd j ts ≡ false)
+
+-- then no odd term holds both
+pub oddBoth-none : (i j : ℕ) (ts : List Term) → OneOut i j ts → oddBoth i j ts ≡ 0
+unfolding inOdd oddBoth
+oddBoth-none i j [] h = refl
+oddBoth-none i j (t ∷ ts) h =
+    rw (oddBoth-none i j ts (⊎-map (λ e. first i e .1) (λ e. first j e .1) h))
+    (ap (λ (s : ℕ). s △ 0) (go (bit i (t .set)) (bit j (t .set)) odd (⊎-map (λ e. first i e .0) (λ e. first j e .0) h)) ∙ △-idl 0)
+  where
+    odd : Bool
+    odd = eqb (t .coeff % 2) 1
+
+    first : (v : ℕ) → inOdd v (t ∷ ts) ≡ false → (cond (bit v (t .set)) odd false ≡ false) × (inOdd v ts ≡ false)
+    first v e = unfold inOdd in neither (cond (bit v (t .set)) odd false) (inOdd v ts) e
+
+    go : (a b o : Bool) → (cond a o false ≡ false) ⊎ (cond b o false ≡ false) → cond a (cond b (cond o (t .set) 0) 0) 0 ≡ 0
+    go true true true (inl e) = absurd (true≢false e)
+    go true true true (inr e) = absurd (true≢false e)
+    go true true false h = refl
+    go true false o h = refl
+    go false b o h = refl

@@ -43,8 +43,13 @@ returns-3 c =
 weight-three-requires : tie.Need-weight-three-requires
 weight-three-requires c κs =
     let at-weight-two = c .before .before .before .before in
-    let one = at-weight-two .before .before .weight-one .ensures in
-    (search needs, search needs, search needs, agreed _ _ _ one (omega arith) _ (at-weight-two .weight-two .ensures) (omega arith))
+    let one = at-weight-two .before .before .weight-one .ensures in (
+      search needs,
+      search needs,
+      search needs,
+      agreed _ _ _ one (omega arith) _ (at-weight-two .weight-two .ensures) (omega arith),
+      c .before .before .odd-mask .ensures,
+    )
 
 returns-4 : tie.Need-returns-4
 returns-4 c =

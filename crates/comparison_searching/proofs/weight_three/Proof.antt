@@ -15,28 +15,28 @@ use Rattle.comparison_searching.proofs.weight_three.Statement.{statemen
 use Rattle.comparison_searching.proofs.weight_three.Tie as tie
 
 abbrev Inv-loop2 : tie.InvT-loop2
-Inv-loop2 sets coeffs phase n found₀ i high j pair both k₀ found k =
+Inv-loop2 sets coeffs phase mask n found₀ i high j pair both k₀ found k =
     (found ≡ 0)
     × (k ≤ j)
     × (firstBeside (phaseOf phase sets coeffs) pair 1 k ≡ none)
     × Shows (phaseOf phase sets coeffs) pair j (setOf both)
 
 abbrev μ-loop2 : tie.MeasureT-loop2
-μ-loop2 sets coeffs phase n found₀ i high j pair both k₀ found k = j - k
+μ-loop2 sets coeffs phase mask n found₀ i high j pair both k₀ found k = j - k
 
 abbrev Inv-loop : tie.InvT-loop
-Inv-loop sets coeffs phase n found₀ i high j₀ found j =
+Inv-loop sets coeffs phase mask n found₀ i high j₀ found j =
     (found ≡ 0) × (j ≤ i) × (firstBeside (phaseOf phase sets coeffs) high 2 j ≡ none)
 
 abbrev μ-loop : tie.MeasureT-loop
-μ-loop sets coeffs phase n found₀ i high j₀ found j = i - j
+μ-loop sets coeffs phase mask n found₀ i high j₀ found j = i - j
 
 abbrev Inv-search : tie.InvT-search
-Inv-search sets coeffs phase n found₀ i₀ found i =
+Inv-search sets coeffs phase mask n found₀ i₀ found i =
     (found ≡ 0) × (i ≤ n) × (firstBeside (phaseOf phase sets coeffs) 0 3 i ≡ none)
 
 abbrev μ-search : tie.MeasureT-search
-μ-search sets coeffs phase n found₀ i₀ found i = n - i
+μ-search sets coeffs phase mask n found₀ i₀ found i = n - i
 
 search-holds : tie.Need-search-holds Inv-loop2 μ-loop2 Inv-loop μ-loop Inv-search μ-search
 search-holds c = (refl, omega arith, beside-start _ 0 2)
@@ -59,9 +59,9 @@ add-pair c =
       power-small (c .before .before .loop .j) (omega arith),
     )
 
-odd-both-requires :
-    tie.Need-odd-both-requires Inv-loop2 μ-loop2 Inv-loop μ-loop Inv-search μ-search
-odd-both-requires c κs = search needs
+odd-both-in-requires :
+    tie.Need-odd-both-in-requires Inv-loop2 μ-loop2 Inv-loop μ-loop Inv-search μ-search
+odd-both-in-requires c κs = search needs
 
 loop2-holds : tie.Need-loop2-holds Inv-loop2 μ-loop2 Inv-loop μ-loop Inv-search μ-search
 loop2-holds c =
@@ -71,7 +71,7 @@ loop2-holds c =
       at-loop .loop .inv .0,
       omega arith,
       beside-start _ _ 0,
-      shows-three _ _ agrees (at-search .search .i) (at-loop .loop .j) _ _ (omega arith) (omega arith) (omega arith) (c .odd-both .ensures),
+      shows-three _ _ agrees (at-search .search .i) (at-loop .loop .j) _ _ (omega arith) (omega arith) (omega arith) (c .odd-both-in .ensures),
     )
 
 holds-requires : tie.Need-holds-requires Inv-loop2 μ-loop2 Inv-loop μ-loop Inv-search μ-search
@@ -168,7 +168,7 @@ weight-three-spec =
     loop-holds
     only-requires-2
     add-pair
-    odd-both-requires
+    odd-both-in-requires
     loop2-holds
     holds-requires
     only-requires-3
