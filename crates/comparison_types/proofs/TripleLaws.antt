@@ -2,22 +2,19 @@
 -- of odd coefficient hold all three, and the exclusive or of the sets of those that hold two of the qubits shows that for every third.
 -- So where no coefficient is odd, no input of weight 3 differs.
 -- Assumes nothing.
-use mathlib.Core.Path.{_≡_, refl, sym, _∙_, ap}
+use mathlib.Core.Path.{_≡_, refl, sym, _∙_}
 use mathlib.Core.Logic.{inl, ⊎-elim}
 use Prim.Native.Nat.{ℕ, suc, _+_, _*_, _/_, _%_, _^_, _<_}
 use native.Mathlib.Nat.{zero-add, add-zero, add-assoc, lt-trans, eq-or-lt-of-le, pow-succ'}
 use native.Mathlib.Omega.{arith}
-use mathlib.Core.Bool.{Bool, true, false, cond, not, xor, _||_, true≢false}
-use mathlib.Core.Option.{none}
+use mathlib.Core.Bool.{Bool, true, false, cond}
 use mathlib.Core.List.{List, [], _∷_}
 use lib.Dec.{eqb}
 use lib.Pow.{pow-lt}
 use borrow.Author.Tests.{eqb-true, eqb-false, eq-eqb, ne-eqb, not-false}
 use Rattle.amplitude.specs.Bits.{bit}
 use Rattle.amplitude.proofs.BitLaws.{bit-zero}
-use Rattle.amplitude.proofs.XorLaws.{xor-falseʳ}
-use Rattle.phase_sum_meaning.specs.Sets.{_△_}
-use Rattle.phase_sum_meaning.specs.Phase.{Term, Phase, sumAt, phaseAt, inOdd}
+use Rattle.phase_sum_meaning.specs.Phase.{Term, Phase, sumAt, phaseAt}
 use Rattle.phase_sum_meaning.specs.Stepping.{coeffs}
 use Rattle.phase_sum_meaning.proofs.SetLaws.{sum-bit, bit-△, △-idl}
 use Rattle.phase_sum_types.specs.Inner.{OddMask, oddBoth}
@@ -25,7 +22,7 @@ use Rattle.phase_sum_types.proofs.Passes.{odd-bit, oddBoth-none}
 use Rattle.comparison_meaning.specs.Verdict.{weight, firstDiffering}
 use Rattle.comparison_meaning.proofs.Weight.{holding, sum-zero, sum-with, sum-alone}
 use Rattle.comparison_types.specs.Inner.{inputOf, AgreesToTwo}
-use Rattle.comparison_types.proofs.SearchLaws.{differing, firstBeside, beside-none, pass-itself, passed-itself, pass-each, passed-each}
+use Rattle.comparison_types.proofs.SearchLaws.{differing, beside-none, pass-itself, passed-itself, pass-each, passed-each}
 
 -- a coefficient that counts for k is odd where the set of the odd term holds k
 odd-share : (k s c : ℕ) → eqb (cond (bit k s) c 0 % 2) 1 ≡ bit k (cond (eqb (c % 2) 1) s 0)
@@ -48,7 +45,9 @@ odd-together i j k (t ∷ ts) = go (odd-together i j k ts) (bit i (t .set)) refl
         → (b : Bool)
         → bit j (t .set) ≡ b
         → eqb (coeffs k (holding j (holding i (t ∷ ts))) % 2) 1 ≡ bit k (oddBoth i j (t ∷ ts))
-    go ih true e true f = rw (e, f, bit-△, ← ih, ← odd-share k (t .set) (t .coeff)) (sum-bit (cond (bit k (t .set)) (t .coeff) 0) (coeffs k (holding j (holding i ts))))
+    go ih true e true f =
+        rw (e, f, bit-△, ← ih, ← odd-share k (t .set) (t .coeff))
+        (sum-bit (cond (bit k (t .set)) (t .coeff) 0) (coeffs k (holding j (holding i ts))))
     go ih true e false f = rw (e, f, △-idl) ih
     go ih false e b f = rw (e, △-idl) ih
 

@@ -1,13 +1,13 @@
 -- The machine's words as sets of variables: its shifts, its bit operations, and the parity of its bits by their count.
 -- Assumes nothing.
-use mathlib.Core.Path.{_≡_, refl, sym, _∙_, ap}
+use mathlib.Core.Path.{_≡_, refl, sym, _∙_}
 use mathlib.Core.Bool.{Bool, true, false, _&&_, _||_, xor, and-self}
 use Prim.Native.Nat.{ℕ, zero, suc, _+_, _*_, _/_, _%_, _^_, _<_, min, max}
 use native.Mathlib.Nat.{mod-eq-of-lt, mod-mod, one-mul, div-one, mod-one, div-div-eq-div-mul, pow-suc, pow-succ'}
 use native.Mathlib.Omega.{arith}
 use lib.Arith.{bin-ind, mod-mul}
 use lib.Pow.{pow-lt, pow-pos}
-use lib.Bits.{bitAnd, bitOr, bitXor, differ, and-step, or-step, xor-step, and-mask, and-comm}
+use lib.Bits.{bitAnd, bitOr, bitXor, differ, and-step, or-step, xor-step}
 use lib.Count.{ones, ones-step}
 use lib.Dec.{eqb}
 use Rattle.amplitude.specs.Bits.{digit, bit}
@@ -119,7 +119,7 @@ low-bit k x =
     rw odd
 
 -- a parity by the first k variables and the others
-parity-cut : (k s x : ℕ) → parity s x ≡ xor (parity (s % 2 ^ k) (x % 2 ^ k)) (parity (s / 2 ^ k) (x / 2 ^ k))
+pub parity-cut : (k s x : ℕ) → parity s x ≡ xor (parity (s % 2 ^ k) (x % 2 ^ k)) (parity (s / 2 ^ k) (x / 2 ^ k))
 parity-cut zero s x = simp (mod-one, div-one, parity-empty, xor-falseˡ)
 parity-cut (suc k) s x =
     rw

@@ -32,6 +32,8 @@ pub(crate) const BUILD: u8 = 9;
 
 pub(crate) const APPEND: u8 = 10;
 
+pub(crate) const ODD_BOTH: u8 = 11;
+
 pub struct Row {
     pub function: u8,
     pub variable: u8,

@@ -194,6 +194,11 @@ fn ask(phase: Phase, r: Row, sets: &[u64], coeffs: &[u8]) {
         }
         row::PHASE_AT => print::number(print::wide(terms::phase_at(sets, coeffs, phase, r.set))),
         row::PARITY => print::bit(parity(Set { word: r.set }, 1u64 << v)),
+        row::ODD_BOTH => {
+            let mask = phase_sum_reading::odd_mask(sets, coeffs, count);
+            let w = (r.constant % 64) as u32;
+            print::set(phase_sum_reading::odd_both_in(mask, sets, coeffs, count, v, w));
+        }
         _ => {}
     }
 }
