@@ -244,6 +244,7 @@ def see_events(check, n, gates, others, fields, events):
         "512 gates in both lists": len(gates) == len(others) == 512,
         f"no T gate: {fields[0]}": no_t,
         "difference of weight 3 on 16 qubits": n == 16 and "difference of weight 3" in events,
+        "difference of weight 3 after a pin": fields[3] != "0" and "difference of weight 3" in events,
     }
     if no_t and fields[0] == "undecided":
         fail("undecided without a T gate")

@@ -2,6 +2,8 @@
 import reference as ref
 from call_rows import PROGRAMS
 
+# several inputs of weight 3 differ: what a later one has beside the one that is shown
+LATER = ("highest qubit", "highest qubit, the middle one lower", "middle qubit", "middle qubit, the lowest one lower", "lowest qubit")
 EVENTS = (
     "pin, constant 0",
     "pin, constant 1",
@@ -17,6 +19,8 @@ EVENTS = (
     "difference of weight 1",
     "difference of weight 2",
     "difference of weight 3",
+    *(f"difference of weight 3, a later one with another {qubit}" for qubit in LATER),
+    "odd coefficients left: equal",
     "none ready",
 )
 SHAPES = (
@@ -30,6 +34,7 @@ SHAPES = (
     "no T gate: equal",
     "no T gate: different",
     "difference of weight 3 on 16 qubits",
+    "difference of weight 3 after a pin",
     "one slice given twice",
     "bytes behind a record",
     "workspaces of 3136 places",
@@ -39,7 +44,7 @@ SHAPES = (
     "dense columns: different",
 )
 # random_pairs.py's, by name: one that is no longer drawn from is missed
-FAMILIES = ("mixed", "diagonal", "wide", "many_h", "long", "blocked", "few_gates", "equal")
+FAMILIES = ("mixed", "diagonal", "triples", "wide", "many_h", "long", "blocked", "few_gates", "equal")
 PICKS = (
     "first, fewer T gates",
     "second, fewer T gates",

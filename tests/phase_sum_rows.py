@@ -15,6 +15,8 @@ import reference as ref
 
 PROGRAM = os.path.join(os.path.dirname(os.path.abspath(__file__)), "..", "crates", "phase_sum_vectors")
 LOAD, CANONICAL, REPLACE, TAKE_OUT, ODD_MASK, HALVES, PHASE_AT, PARITY, CLEAR, BUILD, APPEND = range(11)
+# the set of all variables
+ALL = 2**64 - 1
 
 
 class Rows:
@@ -93,8 +95,14 @@ class Rows:
         self.shown(odd_mask)
         self.row(HALVES, variable=v)
         self.shown(sum(c for _, c in held) // 2 % 4, linear)
+        self.phase_at(x)
+        self.parity(v, x)
+
+    def phase_at(self, x):
         self.row(PHASE_AT, mask=x)
         self.shown((self.constant + sum(c for m, c in self.terms if ref.odd(m & x))) % 8)
+
+    def parity(self, v, x):
         self.row(PARITY, variable=v, mask=x)
         self.shown(x >> v & 1)
 
@@ -134,6 +142,23 @@ def random_gates(rng, n, count, hadamards):
     return gates
 
 
+def whole_words(rows):
+    """Each variable against the set of all 64 and that of the other 63; then phases at words of one to 64 ones, each of three parities."""
+    for v in range(64):
+        rows.parity(v, ALL)
+        rows.parity(v, ALL ^ 1 << v)
+    rows.load(0, [(ALL, 1), (ALL // 255 * 15, 2), (ALL // 3, 4)])
+    for size in (1, 2, 7, 8, 9, 15, 16, 17, 31, 32, 33, 63, 64):
+        ones = (1 << size) - 1
+        rows.phase_at(ones)
+        rows.phase_at(ones << 64 - size)
+    for v in range(64):
+        rows.phase_at(ALL ^ 1 << v)
+    for place in range(0, 64, 8):
+        for byte in (1, 128, 127, 254, 255):
+            rows.phase_at(byte << place)
+
+
 def put(name, content, check):
     """A file of the program, written or checked."""
     path = os.path.join(PROGRAM, name)
@@ -151,6 +176,7 @@ def main():
         sys.exit("usage: phase_sum_rows.py [--check]")
     rng = random.Random(5)
     rows = Rows()
+    whole_words(rows)
     for count, variables in ((0, 4), (1, 1), (2, 1), (13, 3), (40, 4), (40, 64), (200, 6), (300, 64)):
         rows.load(rng.randint(0, 7), random_terms(rng, count, variables))
         rows.canonical()

@@ -1,6 +1,8 @@
 """Random lists, pairs of lists and damaged records for the cross-check. Every family takes a generator of random numbers and gives n and two
 lists that an accepted pair may have, and those of small blocks an accepted block, unless it says otherwise.
 """
+from itertools import combinations
+
 import reference as ref
 from reference import h_gates
 
@@ -98,6 +100,48 @@ def diagonal(rng):
     return n, base + rng.choice(phases), rewritten(rng, n, base, rng.randint(0, 2))
 
 
+def on_parities(kind, q, others):
+    """A kind on each parity of a qubit with none, some or all of these others."""
+    if not others:
+        return one(kind, q)
+    return 2 * (on_parities(kind, q, others[:-1]) + [(ref.CX, others[-1], q)])
+
+
+def over_a_fourth(q, a, b, c):
+    """A doubly controlled Z by eight T gates, all on parities that hold a fourth qubit."""
+    return on_parities(ref.T, q, (a, b, c)) + one(ref.Z, a, b, c) + [(ref.CZ, a, b), (ref.CZ, a, c), (ref.CZ, b, c)]
+
+
+def shared(qubits):
+    """Triples of four or five qubits that share one or two, in some choices: all, those of the two highest, and pairs that cross."""
+    yield list(combinations(qubits, 3))
+    yield [(q, *qubits[-2:]) for q in qubits[:-2]]
+    if len(qubits) == 5:
+        p, q, r, s, t = qubits
+        yield [(q, r, t), (p, s, t)]
+        yield [(p, r, s), (p, q, t)]
+
+
+def triples(rng):
+    """Doubly controlled Z gates on triples that share qubits, all or a few of them in both lists, by other T gates."""
+    n = rng.choice((4, rng.randint(5, 15), 16))
+    qubits = sorted(rng.sample(range(n), min(n, 5)))
+    first = random_list(rng, n, [ref.Z, ref.S, ref.SI, ref.T, ref.TI, ref.CZ], rng.randint(0, 12), 0)
+    second = rewritten(rng, n, first, rng.randint(0, 2))
+    chosen, in_both = rng.choice(list(shared(qubits))), rng.choice((0.2, 0.2, 0.2, 1))
+    for triple in rng.sample(chosen, min(len(chosen), rng.randint(1, 5))):
+        a, b, c = rng.sample(triple, 3)
+        seven = doubly_controlled_z(a, b, c)
+        eight = over_a_fourth(rng.choice([q for q in qubits if q not in triple]), a, b, c)
+        one_way, another = rng.sample((seven, ref.inverted(seven), seven * 3, eight, ref.inverted(eight)), 2)
+        first += one_way
+        second += another if rng.random() < in_both else []
+    if n > 4 and rng.random() < 0.3:
+        a, *others = rng.sample(qubits, 5)
+        second += on_parities(rng.choice((ref.T, ref.TI)), a, others)
+    return n, first, second
+
+
 def wide(rng):
     """H on 14 qubits or more: as many pins."""
     n = rng.randint(14, 16)
@@ -166,7 +210,7 @@ def worth(rng):
     return n, base + rng.choice(ways) * rng.randint(0, 3), base + rng.choice(ways) * rng.randint(1, 3)
 
 
-FAMILIES = (mixed, diagonal, wide, many_h, long, blocked, few_gates, equal)
+FAMILIES = (mixed, diagonal, triples, wide, many_h, long, blocked, few_gates, equal)
 
 
 # Small blocks.

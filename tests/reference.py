@@ -210,6 +210,21 @@ def inputs_by_weight(n):
         yield from sorted(sum(1 << q for q in chosen) for chosen in combinations(range(n), weight))
 
 
+def qubits_of(x):
+    """The qubits of an input, the highest first."""
+    return [q for q in reversed(range(16)) if x >> q & 1]
+
+
+def another(shown, later):
+    """What a later input of weight 3 has beside the one that is shown."""
+    (i, j, k), (p, q, r) = qubits_of(shown), qubits_of(later)
+    if p > i:
+        return "highest qubit, the middle one lower" if q < j else "highest qubit"
+    if q > j:
+        return "middle qubit, the lowest one lower" if r < k else "middle qubit"
+    return "lowest qubit"
+
+
 def built(n, first, second):
     """The sum of the first list and the second inverted."""
     s = Sum(n)
@@ -272,11 +287,17 @@ def compare(n, first, second, events=None):
     if pins != sums:
         events.append("pins differ from sums")
         return result("different", 0, 0)
-    for x in inputs_by_weight(n):
-        if s.phase(x) != s.phase(0):
-            events.append(f"difference of weight {bin(x).count('1')}")
-            return result("different", 0, x)
-    return result("equal", 0, 0)
+    differing = (x for x in inputs_by_weight(n) if s.phase(x) != s.phase(0))
+    shown = next(differing, None)
+    if shown is None:
+        if any(c % 2 for c in s.terms.values()):
+            events.append("odd coefficients left: equal")
+        return result("equal", 0, 0)
+    weight = len(qubits_of(shown))
+    if weight == 3:
+        events += sorted({f"difference of weight 3, a later one with another {another(shown, x)}" for x in differing})
+    events.append(f"difference of weight {weight}")
+    return result("different", 0, shown)
 
 
 def read_input(data):
