@@ -14,7 +14,7 @@ import sys
 import reference as ref
 
 PROGRAM = os.path.join(os.path.dirname(os.path.abspath(__file__)), "..", "crates", "phase_sum_vectors")
-LOAD, CANONICAL, REPLACE, TAKE_OUT, ODD_MASK, HALVES, PHASE_AT, PARITY, CLEAR, BUILD, APPEND = range(11)
+LOAD, CANONICAL, REPLACE, TAKE_OUT, ODD_MASK, HALVES, PHASE_AT, PARITY, CLEAR, BUILD, APPEND, ODD_BOTH = range(12)
 # the set of all variables
 ALL = 2**64 - 1
 
@@ -106,6 +106,15 @@ class Rows:
         self.row(PARITY, variable=v, mask=x)
         self.shown(x >> v & 1)
 
+    def odd_both(self, v, w):
+        """The exclusive or of the odd terms that hold v and w."""
+        both = 0
+        for m, c in self.terms:
+            if c % 2 and m >> v & 1 and m >> w & 1:
+                both ^= m
+        self.row(ODD_BOTH, variable=v, constant=w)
+        self.shown(both)
+
     def append(self, mask, c):
         self.terms.append((mask, c))
         self.row(APPEND, constant=c, mask=mask)
@@ -159,6 +168,20 @@ def whole_words(rows):
             rows.phase_at(byte << place)
 
 
+def odd_pairs(rows, rng):
+    """Pairs of variables: both in odd terms, one, none, one variable twice, at the ends and in the middle of the word."""
+    rows.load(0, [(ALL, 1), (1 | 1 << 63, 7), (3 << 62, 3), (3 << 31, 5), (ALL ^ 1, 2), (7, 4), (14, 6)])
+    for v, w in ((0, 63), (63, 0), (62, 63), (31, 32), (0, 1), (5, 5), (40, 41)):
+        rows.odd_both(v, w)
+    rows.load(0, [(1 << 63 | 1 << 20 | 1, 1), (3, 2), (1 << 63 | 1 << 20 | 4, 7), (1 << 20 | 2, 6)])
+    for v, w in ((0, 63), (20, 63), (63, 20), (1, 20), (20, 1), (0, 2), (1, 3), (62, 61)):
+        rows.odd_both(v, w)
+    rows.load(0, random_terms(rng, 60, 5, 255))
+    for v in range(6):
+        for w in range(v):
+            rows.odd_both(v, w)
+
+
 def put(name, content, check):
     """A file of the program, written or checked."""
     path = os.path.join(PROGRAM, name)
@@ -177,6 +200,7 @@ def main():
     rng = random.Random(5)
     rows = Rows()
     whole_words(rows)
+    odd_pairs(rows, random.Random(6))
     for count, variables in ((0, 4), (1, 1), (2, 1), (13, 3), (40, 4), (40, 64), (200, 6), (300, 64)):
         rows.load(rng.randint(0, 7), random_terms(rng, count, variables))
         rows.canonical()
