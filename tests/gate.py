@@ -195,6 +195,26 @@ def try_reference_faults(folder):
         try_fault(folder, "reference.py", label, old, new)
 
 
+def try_search_faults(folder):
+    """The same of the search over inputs: its weights, their order, and the parities; those of whole words the other rows tell."""
+    weights, listed = "for weight in (1, 2, 3):", "sorted(sum(1 << q for q in chosen) for chosen in combinations(range(n), weight))"
+    for label, old, new in (
+        ("no input of weight 2", weights, "for weight in (1, 3):"),
+        ("no input of weight 3", weights, "for weight in (1, 2):"),
+        ("weight 2 before weight 1", weights, "for weight in (2, 1, 3):"),
+        ("the highest qubit never looked at", listed, listed.replace("range(n)", "range(n - 1)")),
+        ("the lowest qubit never looked at", listed, listed.replace("range(n)", "range(1, n)")),
+        ("inputs by their lowest qubits", listed, listed.replace("sorted(", "list(")),
+        ("the parity of the union", "odd(s & x))) % 8", "odd(s | x))) % 8"),
+        ("any shared variable for an odd number", "odd(s & x))) % 8", "s & x)) % 8"),
+    ):
+        try_fault(folder, "reference.py", label, old, new)
+    for label, new in (("32 bits", "bin(mask % 2**32)"), ("63 bits", "bin(mask % 2**63)")):
+        with Fault(folder, "tests/reference.py", "bin(mask)", new):
+            status, lines = run_test(folder, "phase_sum_rows.py", "--check")
+            trial(f"phase_sum_rows.py, a reference with parities of {label}", status != 0 and "is not what" in lines[-1], lines[-1:])
+
+
 def try_small_faults(folder):
     """The same of small blocks: limits, order, gates, scaling, powers, and what the numbers hold."""
     limits = "MOST_HADAMARDS = 512, 6, 60"
@@ -406,6 +426,7 @@ def main():
         try_rows(folder)
         try_row_faults(folder)
         try_reference_faults(folder)
+        try_search_faults(folder)
         try_small_faults(folder)
         try_documents(folder)
     print(f"gate: {HELD['trials']} trials, {HELD['failed']} failed")
