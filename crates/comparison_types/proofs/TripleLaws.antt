@@ -3,7 +3,7 @@
 -- So where no coefficient is odd, no input of weight 3 differs.
 -- Assumes nothing.
 use mathlib.Core.Path.{_≡_, refl, sym, _∙_}
-use mathlib.Core.Logic.{inl, ⊎-elim}
+use mathlib.Core.Logic.{⊎-elim}
 use Prim.Native.Nat.{ℕ, suc, _+_, _*_, _/_, _%_, _^_, _<_}
 use native.Mathlib.Nat.{zero-add, add-zero, add-assoc, lt-trans, eq-or-lt-of-le, pow-succ'}
 use native.Mathlib.Omega.{arith}
@@ -155,5 +155,5 @@ module _ (φ : Phase) (n : ℕ) (agrees : AgreesToTwo φ n) where
       pass-each φ (2 ^ i + 2 ^ j) 0 j (λ k kj.
       pass-itself φ (2 ^ i + 2 ^ j + 2 ^ k) k
       (three-differs i j k kj ji l
-      ∙ rw (oddBoth-none i j (φ .terms) (inl (sym (odd i) ∙ rw z (bit-zero i)))) (bit-zero k)))))))
+      ∙ rw (oddBoth-none i j (φ .terms) (rw (← odd i, z, bit-zero i))) (bit-zero k)))))))
       ∙ beside-none φ 3 n

@@ -2,7 +2,7 @@
 // and what the search goes by at three qubits, namely the terms of odd coefficient that hold two. Document 01, "Reducing it".
 ghost use mathlib.Core.Path.{_≡_};
 ghost use Prim.Native.Nat.{_+_, _/_, _%_, _<_, _≤_};
-ghost use mathlib.Core.Bool.{cond};
+ghost use mathlib.Core.Bool.{cond, _&&_};
 ghost use lib.ListN.{length};
 ghost use lib.Dec.{eqb};
 ghost use Rattle.amplitude.specs.Bits.{bit};
@@ -14,6 +14,7 @@ ghost use Rattle.phase_sum_types.specs.Workspace.{setOf, held};
 use phase_sum_sets::empty;
 use phase_sum_sets::exclusive_or;
 use phase_sum_sets::holds;
+use phase_sum_sets::holds_both;
 use phase_sum_sets::load;
 use phase_sum_sets::union;
 use phase_sum_sets::without;
@@ -47,13 +48,10 @@ pub fn odd_mask(sets: &[u64], coeffs: &[u8], count: usize) -> Set
 // A term's set where it holds both variables and its coefficient is odd, else the empty set.
 fn odd_if_both(set: Set, coeff: u8, i: u32, j: u32) -> Set
     requires { ⌜ (i < mostVariables) × (j < mostVariables) ⌝ }
-    ensures { λ r. ⌜ setOf r ≡ cond (bit i (setOf set)) (cond (bit j (setOf set)) (cond (eqb (coeff % 2) 1) (setOf set) 0) 0) 0 ⌝ }
+    ensures { λ r. ⌜ setOf r ≡ cond (bit i (setOf set) && bit j (setOf set)) (cond (eqb (coeff % 2) 1) (setOf set) 0) 0 ⌝ }
 {
-    if holds(set, i) {
-        if holds(set, j) {
-            return odd_set(set, coeff);
-        }
-        return empty();
+    if holds_both(set, i, j) {
+        return odd_set(set, coeff);
     }
     empty()
 }
@@ -77,11 +75,8 @@ pub fn odd_both_in(mask: Set, sets: &[u64], coeffs: &[u8], count: usize, i: u32,
     requires { ⌜ (i < mostVariables) × (j < mostVariables) × (count ≤ length (now sets)) × (count ≤ length (now coeffs)) × OddMask (setOf mask) (held count (now sets) (now coeffs)) ⌝ }
     ensures { λ r. ⌜ setOf r ≡ oddBoth i j (held count (now (sets .entry)) (now (coeffs .entry))) ⌝ }
 {
-    if holds(mask, i) {
-        if holds(mask, j) {
-            return odd_both(sets, coeffs, count, i, j);
-        }
-        return empty();
+    if holds_both(mask, i, j) {
+        return odd_both(sets, coeffs, count, i, j);
     }
     empty()
 }

@@ -2,7 +2,7 @@
 // knows only these functions, but for the sort, which orders words as numbers. What a set stands for is `setOf` of phase_sum_types.
 ghost use mathlib.Core.Path.{_≡_};
 ghost use Prim.Native.Nat.{ℕ, _%_, _^_, _<_};
-ghost use mathlib.Core.Bool.{not, _||_};
+ghost use mathlib.Core.Bool.{not, _&&_, _||_};
 ghost use lib.ListN.{length, getD, set};
 ghost use lib.Dec.{eqb};
 ghost use Rattle.amplitude.specs.Bits.{bit};
@@ -64,6 +64,17 @@ pub fn holds(s: Set, v: u32) -> bool
     ensures { λ r. ⌜ r ≡ bit v (setOf s) ⌝ }
 {
     (s.word >> v) % 2 == 1
+}
+
+// Are both variables in the set?
+pub fn holds_both(s: Set, i: u32, j: u32) -> bool
+    requires { ⌜ (i < mostVariables) × (j < mostVariables) ⌝ }
+    ensures { λ r. ⌜ r ≡ bit i (setOf s) && bit j (setOf s) ⌝ }
+{
+    if holds(s, i) {
+        return holds(s, j);
+    }
+    false
 }
 
 // How many variables are in the set.

@@ -4,7 +4,7 @@
 -- Assumes nothing.
 use mathlib.Core.Path.{_≡_, refl, sym, ap, _∙_}
 use mathlib.Core.Logic.{_⊎_, inl, inr, ⊎-map}
-use mathlib.Core.Bool.{Bool, true, false, cond, _||_, or-assoc, or-false, true≢false}
+use mathlib.Core.Bool.{Bool, true, false, cond, _&&_, _||_, or-assoc, or-false, true≢false}
 use mathlib.Core.List.{List, [], _∷_, _++_, map, map-map, map-append}
 use Prim.Native.Nat.{ℕ, suc, _+_, _/_, _%_, _≤_, _<_}
 use native.Mathlib.Nat.{le-refl}
@@ -320,7 +320,7 @@ oddHalves-more y (u ∷ us) t = rw (oddHalves-more y us t) (sym (△-assoc _ _ _
 pub oddBoth-more :
     (i j : ℕ) (ts : List Term) (t : Term) →
     oddBoth i j (ts ++ t ∷ [])
-    ≡ oddBoth i j ts △ cond (bit i (t .set)) (cond (bit j (t .set)) (cond (eqb (t .coeff % 2) 1) (t .set) 0) 0) 0
+    ≡ oddBoth i j ts △ cond (bit i (t .set) && bit j (t .set)) (cond (eqb (t .coeff % 2) 1) (t .set) 0) 0
 unfolding oddBoth
 oddBoth-more i j [] t = △-comm _ _
 oddBoth-more i j (u ∷ us) t = rw (oddBoth-more i j us t) (sym (△-assoc _ _ _))
@@ -330,27 +330,33 @@ neither : (a b : Bool) → a || b ≡ false → (a ≡ false) × (b ≡ false)
 neither true b h = absurd (true≢false h)
 neither false b h = (refl, h)
 
--- one of two variables is in no term of odd coefficient
-abbrev pub OneOut : ℕ → ℕ → List Term → Type 0
-OneOut i j ts = (inOdd i ts ≡ false) ⊎ (inOdd j ts ≡ false)
+-- where an and is false, one side is
+one-false : (a b : Bool) → a && b ≡ false → (a ≡ false) ⊎ (b ≡ false)
+one-false true b h = inr h
+one-false false b h = inl refl
 
--- then no odd term holds both
-pub oddBoth-none : (i j : ℕ) (ts : List Term) → OneOut i j ts → oddBoth i j ts ≡ 0
+-- a term of odd coefficient does not hold both where one is not in such a term
+term-out : (s : ℕ) (a b odd : Bool) → (cond a odd false ≡ false) ⊎ (cond b odd false ≡ false) → cond (a && b) (cond odd s 0) 0 ≡ 0
+term-out s true true true (inl e) = absurd (true≢false e)
+term-out s true true true (inr e) = absurd (true≢false e)
+term-out s true true false h = refl
+term-out s true false odd h = refl
+term-out s false b odd h = refl
+
+-- nor does any of some terms
+terms-out : (i j : ℕ) (ts : List Term) → (inOdd i ts ≡ false) ⊎ (inOdd j ts ≡ false) → oddBoth i j ts ≡ 0
 unfolding inOdd oddBoth
-oddBoth-none i j [] h = refl
-oddBoth-none i j (t ∷ ts) h =
-    rw (oddBoth-none i j ts (⊎-map (λ e. first i e .1) (λ e. first j e .1) h))
-    (ap (λ (s : ℕ). s △ 0) (go (bit i (t .set)) (bit j (t .set)) odd (⊎-map (λ e. first i e .0) (λ e. first j e .0) h)) ∙ △-idl 0)
-  where
-    odd : Bool
-    odd = eqb (t .coeff % 2) 1
+terms-out i j [] h = refl
+terms-out i j (t ∷ ts) h =
+    let odd : Bool = eqb (t .coeff % 2) 1 in
+    let parts : (v : ℕ) → inOdd v (t ∷ ts) ≡ false → (cond (bit v (t .set)) odd false ≡ false) × (inOdd v ts ≡ false) =
+    λ v. neither (cond (bit v (t .set)) odd false) (inOdd v ts) in
+    rw (
+      terms-out i j ts (⊎-map (λ e. parts i e .1) (λ e. parts j e .1) h),
+      term-out (t .set) (bit i (t .set)) (bit j (t .set)) odd (⊎-map (λ e. parts i e .0) (λ e. parts j e .0) h),
+    )
+    (△-idl 0)
 
-    first : (v : ℕ) → inOdd v (t ∷ ts) ≡ false → (cond (bit v (t .set)) odd false ≡ false) × (inOdd v ts ≡ false)
-    first v e = unfold inOdd in neither (cond (bit v (t .set)) odd false) (inOdd v ts) e
-
-    go : (a b o : Bool) → (cond a o false ≡ false) ⊎ (cond b o false ≡ false) → cond a (cond b (cond o (t .set) 0) 0) 0 ≡ 0
-    go true true true (inl e) = absurd (true≢false e)
-    go true true true (inr e) = absurd (true≢false e)
-    go true true false h = refl
-    go true false o h = refl
-    go false b o h = refl
+-- no term of odd coefficient holds both i and j where one of them is in none
+pub oddBoth-none : (i j : ℕ) (ts : List Term) → inOdd i ts && inOdd j ts ≡ false → oddBoth i j ts ≡ 0
+oddBoth-none i j ts h = terms-out i j ts (one-false (inOdd i ts) (inOdd j ts) h)
