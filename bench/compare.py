@@ -1,11 +1,13 @@
 #!/usr/bin/env python3
 """Instructions for whole comparisons: the engine's program and the plain Rust program of the same steps, family by family.
 
-    rt check compare && python3 bench/compare.py [--write]
+    rt check compare && python3 bench/compare.py [--write] [--engine PROGRAM]
 
-Counted by valgrind's callgrind, less those of a pair of empty lists. The large families are on 16 qubits, with 48 H gates in both lists
-together; two more have no H gate and no term, and one is of small pairs. With --write the tables go to docs/BENCHMARKS.md.
+Counted by valgrind's callgrind, less those of a pair of empty lists on 1 qubit: on 16 qubits that pair itself goes through the 696 inputs
+of the search, so that a change of the search would move the zero of the scale. The large families are on 16 qubits, with 48 H gates in
+both lists together; two more have no H gate and no term, and one is of small pairs. With --write the tables go to docs/BENCHMARKS.md.
 """
+import argparse
 import os
 import random
 import re
@@ -88,8 +90,8 @@ def pairs(name, length, seed):
         yield record(first, family.qubits) + record(second if i < 3 else changed(rng, second), family.qubits)
 
 
-def fifteen(qubits):
-    """T on each of the fifteen parities of four qubits: together a power of ω."""
+def parities(qubits, put):
+    """At each parity of some qubits, while it stands on one of them, the gates that `put` has for that qubit and the parity's size."""
     gates = []
     for t, target in enumerate(qubits):
         last = 0
@@ -97,22 +99,44 @@ def fifteen(qubits):
             code = step ^ step >> 1
             if code != last:
                 gates.append((CX, qubits[(code ^ last).bit_length() - 1], target))
-            gates.append((T, target, 255))
+            gates += put(target, 1 + code.bit_count())
             last = code
         gates += [(CX, qubits[i], target) for i in range(t) if last >> i & 1]
     return gates
 
 
-def busy_pair():
-    """An equal pair that keeps the search busy: lists of such identities, whose odd terms do not cancel."""
+def fifteen(qubits):
+    """T on each of the fifteen parities of four qubits: together a power of ω."""
+    return parities(qubits, lambda q, _: [(T, q, 255)])
+
+
+def sign_of_three(qubits):
+    """T on the parities of one and of three of three qubits, its inverse on those of two: −1 where all three are 1, else 1."""
+    return parities(qubits, lambda q, size: [(T if size % 2 else TI, q, 255)])
+
+
+def busy_lists():
+    """Two lists of blocks that do nothing, whose odd terms do not cancel."""
     rng = random.Random(3)
     lists = []
     for _ in range(2):
-        gates = []
-        while len(gates) + 41 <= 512:
-            gates += fifteen(rng.sample(range(16), 4))
-        lists.append(gates)
-    return record(lists[0]) + record(lists[1])
+        blocks = []
+        while 29 * len(blocks) + 41 <= 512:
+            blocks.append(fifteen(rng.sample(range(16), 4)))
+        lists.append(blocks)
+    return lists
+
+
+def busy_pair():
+    """An equal pair that keeps the search busy."""
+    first, second = busy_lists()
+    return record(sum(first, [])) + record(sum(second, []))
+
+
+def last_pair():
+    """The same with a sign on qubits 13, 14 and 15 for the last block: the last input that is tried is the only one that differs."""
+    first, second = busy_lists()
+    return record(sum(first, [])) + record(sum(second[:-1], sign_of_three([13, 14, 15])))
 
 
 def run(command, data):
@@ -161,15 +185,26 @@ def measured(plain, base, datas, engine=ENGINE):
     return mean(ours), mean(theirs), tally
 
 
-def tables(plain):
-    base = {program: instructions(program, record([]) + record([])) for program in (ENGINE, plain)}
+def singles():
+    """The pairs that have a line of their own."""
+    with open(os.path.join(ROOT, "bench", "dearest.pair"), "rb") as file:
+        dearest = file.read()
+    return {
+        "A pair that keeps the search busy": busy_pair(),
+        "A pair that differs at the last input of the search alone": last_pair(),
+        "The dearest equal pair on 16 qubits that `bench/dearest.py` found": dearest,
+    }
+
+
+def tables(plain, engine):
+    base = {program: instructions(program, 2 * record([], 1)) for program in (engine, plain)}
     lines = ["| family | gates a list | engine | plain Rust | ratio | equal | different | undecided |", "|---|---|---|---|---|---|---|---|"]
     growth, everything = {}, []
     for name, family in FAMILIES.items():
         for length in family.lengths:
             datas = list(pairs(name, length, 1))
             everything += datas
-            ours, theirs, tally = measured(plain, base, datas)
+            ours, theirs, tally = measured(plain, base, datas, engine)
             growth[name, length] = ours
             verdicts = " | ".join(str(tally[v]) for v in ("equal", "different", "undecided"))
             lines.append(f"| {name} | {length} | {ours:,} | {theirs:,} | {ours / theirs:.2f} | {verdicts} |")
@@ -179,22 +214,30 @@ def tables(plain):
         if family.bar:
             times = growth[name, 512] / growth[name, 128]
             lines.append(f"| {name} | {times:.2f} times | {growth[name, 512] / family.bar:.2f} of {family.bar:,} |")
-    with open(os.path.join(ROOT, "bench", "dearest.pair"), "rb") as file:
-        single = {"A pair that keeps the search busy": busy_pair(), "The dearest pair that `bench/dearest.py` found": file.read()}
-    for name, data in single.items():
-        ours, theirs, _ = measured(plain, base, [data])
+    for name, data in singles().items():
+        everything.append(data)
+        ours, theirs, _ = measured(plain, base, [data], engine)
         lines += ["", f"{name}: {ours:,} against {theirs:,}, {ours / theirs:.2f} times."]
-    lines += ["", f"Slowest run of all these pairs, the process's start among it: {slowest(ENGINE, everything + list(single.values())):.1f} ms."]
-    return lines
+    return lines + ["", f"Slowest run of all these pairs, the process's start among it: {slowest(engine, everything):.1f} ms."]
+
+
+def arguments():
+    """A parser that knows --engine, for a program other than the checked one."""
+    parser = argparse.ArgumentParser()
+    parser.add_argument("--engine", default=ENGINE, metavar="PROGRAM")
+    return parser
 
 
 def main():
+    parser = arguments()
+    parser.add_argument("--write", action="store_true")
+    given = parser.parse_args()
     with tempfile.TemporaryDirectory() as folder:
         plain = os.path.join(folder, "plain")
         subprocess.run(["rustc", "--edition", "2021", "-O", "-o", plain, os.path.join(ROOT, "bench", "plain.rs")], check=True)
-        lines = tables(plain)
+        lines = tables(plain, given.engine)
     print("\n".join(lines))
-    if "--write" in sys.argv:
+    if given.write:
         path = os.path.join(ROOT, "docs", "BENCHMARKS.md")
         with open(path) as old:
             text = old.read()
