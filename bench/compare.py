@@ -3,8 +3,8 @@
 
     rt check compare && python3 bench/compare.py [--write] [--engine PROGRAM]
 
-Counted by valgrind's callgrind, less those of a pair of empty lists on 1 qubit: on 16 qubits that pair itself goes through the 696 inputs
-of the search, so that a change of the search would move the zero of the scale. The large families are on 16 qubits, with 48 H gates in
+Counted by valgrind's callgrind, less those of a pair of empty lists on 1 qubit: on 16 qubits that pair itself goes through the search, over
+up to 696 inputs, so that a change of the search would move the zero of the scale. The large families are on 16 qubits, with 48 H gates in
 both lists together; two more have no H gate and no term, and one is of small pairs. With --write the tables go to docs/BENCHMARKS.md.
 """
 import argparse
@@ -116,15 +116,9 @@ def sign_of_three(qubits):
 
 
 def busy_lists():
-    """Two lists of blocks that do nothing, whose odd terms do not cancel."""
+    """Two lists of 17 such blocks of 29 gates; their odd terms do not cancel."""
     rng = random.Random(3)
-    lists = []
-    for _ in range(2):
-        blocks = []
-        while 29 * len(blocks) + 41 <= 512:
-            blocks.append(fifteen(rng.sample(range(16), 4)))
-        lists.append(blocks)
-    return lists
+    return [[fifteen(rng.sample(range(16), 4)) for _ in range(17)] for _ in range(2)]
 
 
 def busy_pair():
@@ -134,7 +128,7 @@ def busy_pair():
 
 
 def last_pair():
-    """The same with a sign on qubits 13, 14 and 15 for the last block: the last input that is tried is the only one that differs."""
+    """The same with a sign on qubits 13, 14 and 15 for the last block: of the inputs that are tried only the last one differs."""
     first, second = busy_lists()
     return record(sum(first, [])) + record(sum(second[:-1], sign_of_three([13, 14, 15])))
 
@@ -191,7 +185,7 @@ def singles():
         dearest = file.read()
     return {
         "A pair that keeps the search busy": busy_pair(),
-        "A pair that differs at the last input of the search alone": last_pair(),
+        "The same, different at the last input of the search alone": last_pair(),
         "The dearest equal pair on 16 qubits that `bench/dearest.py` found": dearest,
     }
 

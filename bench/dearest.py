@@ -1,5 +1,5 @@
 #!/usr/bin/env python3
-"""Looks for the dearest equal pair on 16 qubits, 512 gates a list, 48 H gates in both together: a shared list into which blocks that do
+"""Looks for the dearest equal pair on 16 qubits, 512 gates a list and at most 48 H gates in both: a shared list into which blocks that do
 nothing are inserted, other ones in each of the two lists. Such pairs are drawn in many mixes; then the dearest few are changed step by
 step in ways that keep them equal, and the dearest kept.
 
@@ -91,7 +91,7 @@ class Pair:
         self.blocks = ([], [])
         self.fill(rng)
 
-    def list(self, side):
+    def gates(self, side):
         """One of the two lists."""
         gates, last = [], 0
         for place, block in sorted(self.blocks[side], key=lambda item: item[0]):
@@ -100,7 +100,7 @@ class Pair:
         return gates + self.shared[last:]
 
     def record(self):
-        return record(self.list(0)) + record(self.list(1))
+        return record(self.gates(0)) + record(self.gates(1))
 
     def insert(self, rng, side, block):
         """A block at a random place; one with T gates in the front."""
@@ -126,13 +126,13 @@ class Pair:
         return 2 * [gate(rng, H if hadamards > 1 else Z)]
 
     def fill(self, rng):
-        """Blocks put into both lists until these have their lengths, after as many were dropped as are too many."""
+        """Blocks dropped that are too many, and others put in until both lists have their length."""
         for side in (0, 1):
-            while (room := LENGTH - len(self.list(side))) != 0:
+            while (room := LENGTH - len(self.gates(side))) != 0:
                 if room < 0 or room == 1:
                     self.drop(rng, side)
                 else:
-                    self.insert(rng, side, self.fitting(rng, room, HADAMARDS - number(self.list(side), H)))
+                    self.insert(rng, side, self.fitting(rng, room, HADAMARDS - number(self.gates(side), H)))
 
     def changed(self, rng):
         """A pair like this one, with some small changes."""
@@ -172,9 +172,9 @@ class Pair:
                 self.shared[i] = gate(rng, rng.choice(list(ORDERS)))
 
     def stretch(self, rng):
-        """A gate more or less in the shared list."""
+        """A gate more in the shared list, or one that is no H less."""
         i = rng.randint(0, len(self.shared))
-        if rng.random() < 0.5:
+        if rng.random() < 0.5 and len(self.shared) < 400:
             self.shared.insert(i, gate(rng, rng.choice((CX, CZ))))
             self.front += i <= self.front
         elif i < len(self.shared) and self.shared[i][0] != H:
