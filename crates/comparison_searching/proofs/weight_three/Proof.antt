@@ -1,6 +1,7 @@
 -- `comparison_searching::weight_three` meets its contract. The outermost loop's invariant: nothing is found yet, and no input with three of
 -- the first i qubits differs. The middle one's: nor one with qubit i and two of the first j. The innermost one's: nor one with qubits i and
--- j and one of the first k. The measures are how many qubits are left.
+-- j and one of the first k; and the set that was read holds just those third qubits with which one differs. The measures are how many
+-- qubits are left.
 -- Assumes nothing.
 use mathlib.Core.Path.{_≡_, refl, sym, _∙_}
 use Prim.Native.Nat.{_≤_, _-_}
