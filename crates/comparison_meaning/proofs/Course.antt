@@ -16,10 +16,10 @@ use Rattle.phase_sum_meaning.specs.Building.{PathSum}
 use Rattle.phase_sum_meaning.specs.Stepping.{takeOut, turned, Kind, sum, turn, constraint, kindOf}
 use Rattle.comparison_meaning.specs.Reduction.{Counts, counts, End, blocks}
 use Rattle.comparison_meaning.specs.Steps.{Ready, cOf, lOf, Step, sums, turns, joins, Blocked}
-use Rattle.comparison_meaning.specs.Verdict.{Verdict, undecided, Result, result, left, judge, searched, miter, pinnedOf, reducedOf, compare}
-use Rattle.comparison_meaning.specs.Course.{Lowest, PathVariable, Pins, every-qubit, pins, agrees, unpinnable, TakesLowest, Reduces, none-ready, obstructed, steps-on, Continues, further, halted, Stuck, Judged, blocked, unready, unsized, found, same, Shown, shows, Course}
+use Rattle.comparison_meaning.specs.Verdict.{Verdict, undecided, Result, result, left, power, judge, searched, miter, pinnedOf, reducedOf, compare}
+use Rattle.comparison_meaning.specs.Course.{Lowest, PathVariable, Pins, every-qubit, pins, agrees, unpinnable, TakesLowest, Reduces, none-ready, obstructed, steps-on, Continues, further, halted, Stuck, Judged, blocked, unready, unsized, found, same, rotated, Shown, shows, Course}
 use Rattle.comparison_meaning.proofs.Pinning.{pins-course}
-use Rattle.comparison_meaning.proofs.Outcomes.{continues, reduced-stops, judges, reason, judged-undecided}
+use Rattle.comparison_meaning.proofs.Outcomes.{continues, reduced-stops, judges, agreement-other, reason, judged-undecided}
 use Rattle.comparison_meaning.proofs.Reached.{within-miter, pin-end}
 
 -- the comparison's result is reached by the course
@@ -160,8 +160,10 @@ judged-is {e} (unsized done unequal) =
     rw (done .0, judge, none-left e (done .1), searched, ne-eqb (e .counts .pins) (e .counts .sums) unequal)
 judged-is {e} (found done sized differs) =
     rw (done .0, judge, none-left e (done .1), searched, eq-eqb (e .counts .pins) (e .counts .sums) sized, differs)
-judged-is {e} (same done sized none-found) =
-    rw (done .0, judge, none-left e (done .1), searched, eq-eqb (e .counts .pins) (e .counts .sums) sized, none-found)
+judged-is {e} (same done sized none-found one) =
+    rw (done .0, judge, none-left e (done .1), searched, eq-eqb (e .counts .pins) (e .counts .sums) sized, none-found, one)
+judged-is {e} (rotated done sized none-found other) =
+    rw (done .0, judge, none-left e (done .1), searched, eq-eqb (e .counts .pins) (e .counts .sums) sized, none-found, agreement-other (power e) other)
 
 -- so a result is document 01's course for a pair only if it is the comparison's
 pub only-course :

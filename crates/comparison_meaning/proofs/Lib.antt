@@ -4,7 +4,6 @@ pub mod Anchors
 pub mod Weight
 pub mod Pinning
 pub mod Reducing
-pub mod Bare
 pub mod Reached
 pub mod Course
 pub mod Outcomes

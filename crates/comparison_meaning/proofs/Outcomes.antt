@@ -2,11 +2,10 @@
 -- here, so that the theorems only go through the cases.
 -- Assumes nothing.
 use mathlib.Core.Path.{_≡_, refl, sym, _∙_}
-use mathlib.Core.Logic.{_⊎_, inl, inr}
 use mathlib.Core.Bool.{Bool, true, false}
 use mathlib.Core.List.{List, [], _∷_, cons≢nil}
 use mathlib.Core.Option.{Option, none, some, Option·some-ne-none}
-use Prim.Native.Nat.{ℕ}
+use Prim.Native.Nat.{ℕ, zero, suc, _<_}
 use native.Mathlib.Omega.{arith}
 use lib.Dec.{eqb}
 use lib.ListN.{length}
@@ -18,8 +17,8 @@ use Rattle.phase_sum_meaning.proofs.Wellformed.{Good}
 use Rattle.phase_sum_meaning.proofs.Evenness.{OddIn, InputsOnly}
 use Rattle.comparison_meaning.specs.Reduction.{End, reduceFrom, reduceEnd}
 use Rattle.comparison_meaning.specs.Steps.{Steps, Blocked}
-use Rattle.comparison_meaning.specs.Course.{Continues, further, halted, Done, Judged, blocked, unready, unsized, found, same, Shown, shows}
-use Rattle.comparison_meaning.specs.Verdict.{candidates, firstDiffering, Verdict, equal, different, undecided, Result, left, result, searched, judge}
+use Rattle.comparison_meaning.specs.Course.{Continues, further, halted, Done, Judged, blocked, unready, unsized, found, same, rotated, Shown, shows}
+use Rattle.comparison_meaning.specs.Verdict.{candidates, firstDiffering, Verdict, equal, different, undecided, turned, Result, left, result, agreement, power, searched, judge}
 use Rattle.comparison_meaning.proofs.Reducing.{reduces-from, reduce-steps, reduce-stops, even-decides, reduce-blocks}
 
 -- reducing what pinning left is document 01's course
@@ -60,6 +59,11 @@ pub reduced-even :
 reduced-even {n} {p} {e} (further h r) good even free = even-decides n (p .sum) (p .counts) e good r even free
 reduced-even (halted {q} h) good even free = absurd (Option·some-ne-none q (sym h ∙ free))
 
+-- a power of ω that is not 1 is a turn
+pub agreement-other : (j : ℕ) → 0 < j → agreement j ≡ turned
+agreement-other zero other = absurd (omega arith)
+agreement-other (suc j) other = refl
+
 -- the verdict on an end has one of these reasons
 pub judges : (scratch n : ℕ) (e : End) → Shown scratch n e (judge scratch n e)
 unfolding judge searched
@@ -78,8 +82,17 @@ judges scratch n e = go (e .blockedBy) refl (e .sum .live) refl
         → Shown scratch n e (judge scratch n e)
     looks done z false m f d =
         by (rw (done .0, judge, z, searched, m)) (unsized done (eqb-false (e .counts .pins) (e .counts .sums) m))
-    looks done z true m none d =
-        by (rw (done .0, judge, z, searched, m, d)) (same done (eqb-true (e .counts .pins) (e .counts .sums) m) d)
+    looks done z true m none d = agree (power e) refl
+      where
+        is : judge scratch n e ≡ result (agreement (power e)) (power e) 0 e
+        is = rw (done .0, judge, z, searched, m, d)
+
+        sized : e .counts .pins ≡ e .counts .sums
+        sized = eqb-true (e .counts .pins) (e .counts .sums) m
+
+        agree : (j : ℕ) → power e ≡ j → Shown scratch n e (judge scratch n e)
+        agree zero p = by (is ∙ rw p) (same done sized d p)
+        agree (suc j) p = by (is ∙ rw p) (rotated done sized d (omega arith))
     looks done z true m (some v) d =
         by (rw (done .0, judge, z, searched, m, d)) (found done (eqb-true (e .counts .pins) (e .counts .sums) m) d)
 
@@ -106,25 +119,22 @@ judged-undecided (blocked {q} h) free some-left = absurd (Option·some-ne-none q
 judged-undecided (unready h left) free some-left = refl
 judged-undecided (unsized done unequal) free some-left = absurd (some-left (done .1))
 judged-undecided (found done sized differs) free some-left = absurd (some-left (done .1))
-judged-undecided (same done sized none-found) free some-left = absurd (some-left (done .1))
+judged-undecided (same done sized none-found one) free some-left = absurd (some-left (done .1))
+judged-undecided (rotated done sized none-found other) free some-left = absurd (some-left (done .1))
 
--- an end with none left, unless blocked, is equal or different
+-- an end with none left, unless blocked, is not undecided
 pub judged-decided :
-    {scratch n : ℕ} {e : End} {v : Verdict} {a b : ℕ}
-    → Judged scratch n e v a b
-    → (e .blockedBy ≡ none → e .sum .live ≡ [])
-    → (v ≡ equal) ⊎ (v ≡ different)
-judged-decided (blocked h) none-left = inr refl
-judged-decided (unready h some-left) none-left = absurd (some-left (none-left h))
-judged-decided (unsized done unequal) none-left = inr refl
-judged-decided (found done sized differs) none-left = inr refl
-judged-decided (same done sized none-found) none-left = inl refl
+    {scratch n : ℕ} {e : End} {a b : ℕ} → Judged scratch n e undecided a b → (e .blockedBy ≡ none → e .sum .live ≡ []) → ⊥
+judged-decided (unready h some-left) none-left = some-left (none-left h)
 
--- the inputs are 0 and 0 unless the verdict is different
-pub judged-inputs :
-    {scratch n : ℕ} {e : End} {v : Verdict} {a b : ℕ} → Judged scratch n e v a b → (v ≡ different → ⊥) → (a ≡ 0) × (b ≡ 0)
-judged-inputs (blocked h) other = absurd (other refl)
-judged-inputs (unready h some-left) other = (refl, refl)
-judged-inputs (unsized done unequal) other = absurd (other refl)
-judged-inputs (found done sized differs) other = absurd (other refl)
-judged-inputs (same done sized none-found) other = (refl, refl)
+-- the inputs are 0 and 0 where the verdict is equal
+pub judged-equal : {scratch n : ℕ} {e : End} {a b : ℕ} → Judged scratch n e equal a b → (a ≡ 0) × (b ≡ 0)
+judged-equal (same done sized none-found one) = (refl, refl)
+
+-- or undecided
+pub judged-unready : {scratch n : ℕ} {e : End} {a b : ℕ} → Judged scratch n e undecided a b → (a ≡ 0) × (b ≡ 0)
+judged-unready (unready h some-left) = (refl, refl)
+
+-- and where it is turned the second is
+pub judged-turned : {scratch n : ℕ} {e : End} {a b : ℕ} → Judged scratch n e turned a b → b ≡ 0
+judged-turned (rotated done sized none-found other) = refl

@@ -1,8 +1,8 @@
 -- The customer's demands 2 and 3, proved for every n and all lists whose gates are within n, with the equation that carries them and
 -- the room that the terms take.
 -- Assumes nothing.
-use mathlib.Core.Path.{_≡_, sym, _∙_}
-use mathlib.Core.Logic.{_⊎_, ⊎-elim}
+use mathlib.Core.Path.{_≡_, refl, sym, _∙_, ap}
+use mathlib.Core.Logic.{inl, ⊎-elim}
 use mathlib.Core.Bool.{true, true≢false}
 use mathlib.Core.List.{List}
 use mathlib.Core.Option.{none, some}
@@ -14,27 +14,60 @@ use Rattle.amplitude.specs.Number.{0ω}
 use Rattle.amplitude.specs.Circuit.{column, hGates, Fits, Carries}
 use Rattle.amplitude.proofs.BitLaws.{bit-zero}
 use Rattle.amplitude.proofs.NumberLaws.{√2^-0ω}
-use Rattle.amplitude.proofs.Bridge.{zero-diagonal}
+use Rattle.amplitude.proofs.Bridge.{zero-diagonal, fits-unique}
 use Rattle.phase_sum_meaning.specs.Sets.{Clear}
 use Rattle.phase_sum_meaning.specs.Parity.{Parity}
-use Rattle.phase_sum_meaning.specs.Phase.{minus}
 use Rattle.phase_sum_meaning.proofs.Evenness.{OddIn, InputsOnly, ready-even, noOdd-even, noOdd-build}
 use Rattle.phase_sum_meaning.proofs.Roominess.{room-build}
 use Rattle.comparison_meaning.specs.Reduction.{End, factor}
-use Rattle.comparison_meaning.specs.Verdict.{equal, different, undecided, Result, blockedInput, reducedOf, compare, miter, pinnedOf}
-use Rattle.comparison_meaning.specs.Demands.{SomePower, EqualIsRight, EqualByConstant, DifferentIsRight, ByTheSteps, ReachedBySteps, InputsOnlyIfDifferent, CountsAddUp, StepsWithinHGates, Decided, CliffordIsDecided, EvenIsDecided, EveryStep, EndOfSteps, BuiltFits, EveryStepFits, Demands, BlockedAsShown, EverySumIsCanonical}
-use Rattle.comparison_meaning.specs.Course.{Continues, further, halted, Judged, blocked, unsized, found, same, Shown, shows}
+use Rattle.comparison_meaning.specs.Verdict.{Verdict, equal, different, undecided, turned, number, Result, candidates, firstDiffering, blockedInput, power, reducedOf, compare, miter, pinnedOf}
+use Rattle.comparison_meaning.specs.Demands.{SomePower, OnePower, Turn, EqualIsRight, TurnedIsRight, ByConstant, DifferentIsRight, ByTheSteps, ReachedBySteps, InputsAsSaid, CountsAddUp, StepsWithinHGates, DecidedBy, Decided, CliffordIsDecided, EvenIsDecided, EveryStep, EndOfSteps, BuiltFits, EveryStepFits, Demands, BlockedAsShown, EverySumIsCanonical}
+use Rattle.comparison_meaning.specs.Course.{Continues, further, halted, Done, Judged, blocked, unsized, found, same, rotated, Shown, shows}
 use Rattle.comparison_meaning.proofs.Weight.{search-some}
 use Rattle.comparison_meaning.proofs.Pinning.{blocked-input, pin-blocked}
 use Rattle.comparison_meaning.proofs.Reducing.{reduce-steps, reduce-blocks, stuck-inputs, stuck-nonzero, stuck-zero}
 use Rattle.comparison_meaning.proofs.Reached.{room-miter, noT-miter, within-miter, pin-end, kept, steps-count, steps-fit, steps-diagonal, fits-sized, same-carries, phases-apart}
 use Rattle.comparison_meaning.proofs.Course.{course-of, only-course, undecided-if-stuck}
-use Rattle.comparison_meaning.proofs.Outcomes.{continues, reduced-steps, reduced-through, reduced-even, judges, reason, judged-decided, judged-inputs, reduced-blocked}
+use Rattle.comparison_meaning.proofs.Outcomes.{continues, reduced-steps, reduced-through, reduced-even, judges, reason, judged-decided, judged-equal, judged-unready, judged-turned, reduced-blocked}
 use Rattle.phase_sum_meaning.proofs.Wellformed.{good-build}
 
 -- no input has a scratch qubit at 1 where there are none
 clear-none : (v : ℕ) → Clear 0 v
 clear-none v q h = absurd (true≢false (sym h ∙ bit-zero q))
+
+-- a verdict that is right and never undecided says exactly what carries the pair, where at most one power does
+pub decided-by :
+    (n : ℕ) (first second : List Gate)
+    → OnePower n first second
+    → (v : Verdict) (shown : ℕ)
+    → (v ≡ equal → Carries n 0 first second)
+    → (v ≡ turned → Turn n first second shown × Carries n shown first second)
+    → (v ≡ different → SomePower n first second → ⊥)
+    → (v ≡ undecided → ⊥)
+    → DecidedBy n first second v shown
+decided-by n first second one equal shown agree carries apart decides =
+    record {
+      equal-if = (agree, λ c. refl);
+      turned-if = λ j. (λ h. absurd (omega (arith, ap number (h .0))), λ h. absurd (omega (arith, one 0 j (agree refl) (h .1), h .0 .0, h .0 .1)));
+      different-if = (λ h. absurd (omega (arith, ap number h)), λ no. absurd (no (0, omega arith, agree refl)));
+      not-undecided = decides;
+    }
+decided-by n first second one turned shown agree carries apart decides =
+    let (turn, carried) = carries refl in
+    record {
+      equal-if = (λ h. absurd (omega (arith, ap number h)), λ c. absurd (omega (arith, one 0 shown c carried, turn .0, turn .1)));
+      turned-if = λ j. (λ h. rw (← h .1) (turn, carried), λ h. (refl, omega (arith, one shown j carried (h .1), turn .1, h .0 .1)));
+      different-if = (λ h. absurd (omega (arith, ap number h)), λ no. absurd (no (shown, turn .1, carried)));
+      not-undecided = decides;
+    }
+decided-by n first second one different shown agree carries apart decides =
+    record {
+      equal-if = (λ h. absurd (omega (arith, ap number h)), λ c. absurd (apart refl (0, omega arith, c)));
+      turned-if = λ j. (λ h. absurd (omega (arith, ap number (h .0))), λ h. absurd (apart refl (j, h .0 .1, h .1)));
+      different-if = (apart, λ no. refl);
+      not-undecided = decides;
+    }
+decided-by n first second one undecided shown agree carries apart decides = absurd (decides refl)
 
 module _ (n : ℕ) (first second : List Gate) (l : AllWithin n first) (r : AllWithin n second) where
   -- how the reduction ends
@@ -91,20 +124,47 @@ module _ (n : ℕ) (first second : List Gate) (l : AllWithin n first) (r : AllWi
   pub steps-within-h-gates : StepsWithinHGates n first second (compare 0 n first second)
   steps-within-h-gates = omega (arith, counts-add-up)
 
-  -- equal: the phase is the same at every input, so minus its constant fits every column
-  pub equal-by-constant : EqualByConstant n first second (compare 0 n first second)
-  equal-by-constant h = carries (rw h at (reason shown))
+  -- at most one power carries the pair: column 0 fits at most one
+  pub one-power : OnePower n first second
+  one-power i j carried again = fits-unique n first second 0 i j l r (pow-pos n) (carried 0 (pow-pos n)) (again 0 (pow-pos n))
+
+  -- where the phase is the same at every input, minus its constant fits every column
+  carries :
+      Done (reducedOf 0 n first second)
+      → reducedOf 0 n first second .counts .pins ≡ reducedOf 0 n first second .counts .sums
+      → firstDiffering (reducedOf 0 n first second .sum .phase) (candidates 0 n) ≡ none
+      → Carries n (power (reducedOf 0 n first second)) first second
+  carries done sized none-found v b =
+      same-carries 0 n first second l r _ _ reached-by-steps (reduced-through ends (done .0)) (done .1) sized none-found v b (clear-none v)
+
+  -- so where equal or turned is said, and it is the power shown
+  pub by-constant : ByConstant n first second (compare 0 n first second)
+  by-constant = ⊎-elim (λ h. is-one (rw h at (reason shown))) (λ h. is-other (rw h at (reason shown)))
     where
-      carries :
+      is-one :
           {a b : ℕ}
           → Judged 0 n (reducedOf 0 n first second) equal a b
-          → Carries n (minus (reducedOf 0 n first second .sum .phase .constant)) first second
-      carries (same done sized none-found) v b =
-          same-carries 0 n first second l r _ _ reached-by-steps (reduced-through ends (done .0)) (done .1) sized none-found v b (clear-none v)
+          → (a ≡ power (reducedOf 0 n first second)) × Carries n (power (reducedOf 0 n first second)) first second
+      is-one (same done sized none-found one) = (sym one, carries done sized none-found)
 
-  -- so some power carries the pair
+      is-other :
+          {a b : ℕ}
+          → Judged 0 n (reducedOf 0 n first second) turned a b
+          → (a ≡ power (reducedOf 0 n first second)) × Carries n (power (reducedOf 0 n first second)) first second
+      is-other (rotated done sized none-found other) = (refl, carries done sized none-found)
+
+  -- equal: the power is 1, so all amplitudes agree
   pub equal-is-right : EqualIsRight n first second (compare 0 n first second)
-  equal-is-right h = (minus (reducedOf 0 n first second .sum .phase .constant), omega arith, equal-by-constant h)
+  equal-is-right h =
+      let (is-shown, carried) = by-constant (inl h) in
+      rw (sym is-shown ∙ judged-equal (rw h at (reason shown)) .0) at carried
+
+  -- turned: it is the one shown, and not 1
+  pub turned-is-right : TurnedIsRight n first second (compare 0 n first second)
+  turned-is-right h = is (rw h at (reason shown))
+    where
+      is : {a b : ℕ} → Judged 0 n (reducedOf 0 n first second) turned a b → Turn n first second a × Carries n a first second
+      is (rotated done sized none-found other) = ((other, omega arith), carries done sized none-found)
 
   -- where the reduction is blocked, the diagonal amplitude is 0 at the input shown
   blocked-zero :
@@ -153,20 +213,21 @@ module _ (n : ℕ) (first second : List Gate) (l : AllWithin n first) (r : AllWi
         undecided-if-stuck = undecided-if-stuck (course-of 0 n first second l r);
       }
 
-  -- the inputs are 0 and 0 unless different
-  pub inputs-only-if-different : InputsOnlyIfDifferent n first second (compare 0 n first second)
-  inputs-only-if-different other = judged-inputs (reason shown) other
+  -- the inputs are 0 and 0 where equal or undecided, and the second is 0 where turned
+  pub inputs-as-said : InputsAsSaid n first second (compare 0 n first second)
+  inputs-as-said = (
+    ⊎-elim (λ h. judged-equal (rw h at (reason shown))) (λ h. judged-unready (rw h at (reason shown))),
+    λ h. judged-turned (rw h at (reason shown)),
+  )
 
-  -- where every odd coefficient of the pinned sum is on inputs alone, the verdict is equal, exactly if one power of ω carries the pair,
-  -- or different
+  -- where every odd coefficient of the pinned sum is on inputs alone, the verdict is not undecided, and so says what carries the pair
   decided : OddIn (InputsOnly n) (pinnedOf 0 n first second .sum .phase .terms) → Decided n first second (compare 0 n first second)
-  decided even = ((equal-is-right, λ power. ⊎-elim (λ h. h) (λ h. absurd (refuted power h)) either), either)
+  decided even =
+      decided-by n first second one-power _ _ equal-is-right turned-is-right refuted
+      (λ h. judged-decided (rw h at (reason shown)) (reduced-even ends (pin-end 0 n first second l r .good) even))
     where
-      either : (compare 0 n first second .verdict ≡ equal) ⊎ (compare 0 n first second .verdict ≡ different)
-      either = judged-decided (reason shown) (reduced-even ends (pin-end 0 n first second l r .good) even)
-
-      refuted : SomePower n first second → compare 0 n first second .verdict ≡ different → ⊥
-      refuted power h = let no = different-is-right h in no .2 (power .0) (power .2 _ (no .0)) (power .2 _ (no .1))
+      refuted : compare 0 n first second .verdict ≡ different → SomePower n first second → ⊥
+      refuted h power = let no = different-is-right h in no .2 (power .0) (power .2 _ (no .0)) (power .2 _ (no .1))
 
   -- so it is where no path variable is in a term of odd coefficient after pinning
   pub even-is-decided : EvenIsDecided n first second (compare 0 n first second)
@@ -183,13 +244,15 @@ module _ (n : ℕ) (first second : List Gate) (l : AllWithin n first) (r : AllWi
 pub demands : (n : ℕ) (first second : List Gate) → AllWithin n first → AllWithin n second → Demands n first second
 demands n first second l r =
     record {
+      one-power = one-power n first second l r;
       equal-is-right = equal-is-right n first second l r;
-      equal-by-constant = equal-by-constant n first second l r;
+      turned-is-right = turned-is-right n first second l r;
+      by-constant = by-constant n first second l r;
       different-is-right = different-is-right n first second l r;
       by-the-steps = by-the-steps n first second l r;
       reached-by-steps = reached-by-steps n first second l r;
       blocked-as-shown = blocked-as-shown n first second l r;
-      inputs-only-if-different = inputs-only-if-different n first second l r;
+      inputs-as-said = inputs-as-said n first second l r;
       counts-add-up = counts-add-up n first second l r;
       steps-within-h-gates = steps-within-h-gates n first second l r;
       clifford-is-decided = clifford-is-decided n first second l r;

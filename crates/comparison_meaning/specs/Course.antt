@@ -15,7 +15,7 @@ use Rattle.phase_sum_meaning.specs.Stepping.{replace}
 use Rattle.comparison_meaning.specs.Reduction as reduction
 use Rattle.comparison_meaning.specs.Reduction.{Counts, counts, addPin, End, blocks, isZero, mismatch}
 use Rattle.comparison_meaning.specs.Steps.{Ready, lOf, Step, sums, turns, joins, Blocked}
-use Rattle.comparison_meaning.specs.Verdict.{Verdict, equal, different, undecided, Result, result, candidates, firstDiffering, blockedInput, miter}
+use Rattle.comparison_meaning.specs.Verdict.{Verdict, equal, different, undecided, turned, Result, result, candidates, firstDiffering, blockedInput, power, miter}
 
 -- z is the lowest number of a kind
 pub record Lowest (P : ℕ → Type 0) (z : ℕ) : Type 0 where
@@ -89,7 +89,7 @@ abbrev pub Done : End → Type 0
 Done e = (e .blockedBy ≡ none) × (e .sum .live ≡ [])
 
 -- the reasons for a verdict on the end e with its two inputs: a parity is blocked; path variables are left; none is, and pins and
--- sums differ, or the phase differs at an input, or it does not
+-- sums differ, or the phase differs at an input; or it does not, and the power of ω that is left is 1, or it is another one, which is shown
 pub data Judged (scratch n : ℕ) (e : End) : Verdict → ℕ → ℕ → Type 0 where
   blocked : {q : Parity} → e .blockedBy ≡ some q → Judged scratch n e different (blockedInput n q) (blockedInput n q)
   unready : e .blockedBy ≡ none → (e .sum .live ≡ [] → ⊥) → Judged scratch n e undecided 0 0
@@ -104,7 +104,14 @@ pub data Judged (scratch n : ℕ) (e : End) : Verdict → ℕ → ℕ → Type 0
       Done e
       → e .counts .pins ≡ e .counts .sums
       → firstDiffering (e .sum .phase) (candidates scratch n) ≡ none
+      → power e ≡ 0
       → Judged scratch n e equal 0 0
+  rotated :
+      Done e
+      → e .counts .pins ≡ e .counts .sums
+      → firstDiffering (e .sum .phase) (candidates scratch n) ≡ none
+      → 0 < power e
+      → Judged scratch n e turned (power e) 0
 
 -- a result with such a verdict, and with the counts of the end
 pub data Shown (scratch n : ℕ) (e : End) : Result → Type 0 where

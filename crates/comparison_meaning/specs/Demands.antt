@@ -1,9 +1,9 @@
--- The customer's demands 2 and 3, as propositions about a pair of lists on n qubits and the result of its comparison, and what is shown
--- beside them. proofs/Theorems.antt proves all of them for every n and all lists whose gates are within n.
+-- The customer's demands 2 and 3, as document 02's item 4 has them now, as propositions about a pair of lists on n qubits and the result of
+-- its comparison, and what is shown beside them. proofs/Theorems.antt proves all of them for every n and all lists whose gates are within n.
 -- Assumes nothing.
 use mathlib.Core.Path.{_≡_}
 use mathlib.Core.Logic.{_↔_, _⊎_}
-use Prim.Native.Nat.{ℕ, _+_, _*_, _^_, _≤_, _<_}
+use Prim.Native.Nat.{ℕ, _+_, _*_, _%_, _^_, _≤_, _<_}
 use mathlib.Core.Bool.{true}
 use mathlib.Core.List.{List}
 use mathlib.Core.Option.{none, some}
@@ -20,7 +20,7 @@ use Rattle.phase_sum_meaning.specs.Room.{room, mostVariables, places}
 use Rattle.comparison_meaning.specs.Reduction.{Counts, End, factor}
 use Rattle.comparison_meaning.specs.Steps.{Steps, Blocked}
 use Rattle.comparison_meaning.specs.Course.{Course, Stuck}
-use Rattle.comparison_meaning.specs.Verdict.{Result, equal, different, undecided, miter, pinnedOf, reducedOf, compare}
+use Rattle.comparison_meaning.specs.Verdict.{Verdict, Result, equal, different, undecided, turned, power, miter, pinnedOf, reducedOf, compare}
 
 -- the sum t with the counts d is reached by document 01's steps from the pinned sum of a pair
 abbrev pub Reached : ℕ → ℕ → List Gate → List Gate → PathSum → Counts → Type 0
@@ -39,13 +39,27 @@ module _ (n : ℕ) (first second : List Gate) where
   abbrev pub SomePower : Type 0
   SomePower = (j : ℕ) × (j < 8) × Carries n j first second
 
-  -- demand 2: equal is said only where one power of ω carries the pair
-  abbrev pub EqualIsRight : Result → Type 0
-  EqualIsRight answer = answer .verdict ≡ equal → SomePower
+  -- at most one power of ω does, mod 8: a power that carries the pair is the power
+  abbrev pub OnePower : Type 0
+  OnePower = (i j : ℕ) → Carries n i first second → Carries n j first second → i % 8 ≡ j % 8
 
-  -- and that power is minus the constant of the phase that is left
-  abbrev pub EqualByConstant : Result → Type 0
-  EqualByConstant answer = answer .verdict ≡ equal → Carries n (minus (end .sum .phase .constant)) first second
+  -- a power of ω from the first to the seventh: not 1
+  abbrev pub Turn : ℕ → Type 0
+  Turn j = (1 ≤ j) × (j < 8)
+
+  -- demand 2: equal is said only where all amplitudes agree exactly
+  abbrev pub EqualIsRight : Result → Type 0
+  EqualIsRight answer = answer .verdict ≡ equal → Carries n 0 first second
+
+  -- turned is said only where the power of ω that is shown in the first input's place, from 1 to 7, carries the pair
+  abbrev pub TurnedIsRight : Result → Type 0
+  TurnedIsRight answer = answer .verdict ≡ turned → Turn (answer .first) × Carries n (answer .first) first second
+
+  -- in both cases that power is minus the constant of the phase that is left
+  abbrev pub ByConstant : Result → Type 0
+  ByConstant answer =
+      (answer .verdict ≡ equal) ⊎ (answer .verdict ≡ turned)
+      → (answer .first ≡ power end) × Carries n (power end) first second
 
   -- demand 2: different is said only with two inputs shown whose columns no single power of ω fits
   abbrev pub DifferentIsRight : Result → Type 0
@@ -70,9 +84,11 @@ module _ (n : ℕ) (first second : List Gate) where
   abbrev pub BlockedAsShown : Type 0
   BlockedAsShown = pinning .blockedBy ≡ none → (q : Parity) → end .blockedBy ≡ some q → Blocked (end .sum) q
 
-  -- document 01: the inputs are 0 and 0 unless different
-  abbrev pub InputsOnlyIfDifferent : Result → Type 0
-  InputsOnlyIfDifferent answer = (answer .verdict ≡ different → ⊥) → (answer .first ≡ 0) × (answer .second ≡ 0)
+  -- the inputs are 0 and 0 unless different or turned, and the second is 0 where turned
+  abbrev pub InputsAsSaid : Result → Type 0
+  InputsAsSaid answer =
+      ((answer .verdict ≡ equal) ⊎ (answer .verdict ≡ undecided) → (answer .first ≡ 0) × (answer .second ≡ 0))
+      × (answer .verdict ≡ turned → answer .second ≡ 0)
 
   -- demand 3: pins + sums + turns + 2 · joins + left = the H gates of both lists
   abbrev pub CountsAddUp : Result → Type 0
@@ -83,9 +99,17 @@ module _ (n : ℕ) (first second : List Gate) where
   abbrev pub StepsWithinHGates : Result → Type 0
   StepsWithinHGates answer = answer .sums + answer .turns + answer .joins ≤ hGates first + hGates second
 
-  -- equal exactly when one power of ω carries the pair, otherwise different, never undecided
+  -- a verdict and what it shows first: equal exactly when all amplitudes agree, turned with j exactly when ω^j, j from 1 to 7, carries the
+  -- pair, different exactly when no power does, and never undecided
+  pub record DecidedBy (v : Verdict) (shown : ℕ) : Type 0 where
+    pub equal-if : (v ≡ equal) ↔ Carries n 0 first second
+    pub turned-if : (j : ℕ) → ((v ≡ turned) × (shown ≡ j)) ↔ (Turn j × Carries n j first second)
+    pub different-if : (v ≡ different) ↔ (SomePower → ⊥)
+    pub not-undecided : v ≡ undecided → ⊥
+
+  -- so it is with a result
   abbrev pub Decided : Result → Type 0
-  Decided answer = ((answer .verdict ≡ equal) ↔ SomePower) × ((answer .verdict ≡ equal) ⊎ (answer .verdict ≡ different))
+  Decided answer = DecidedBy (answer .verdict) (answer .first)
 
   -- no T gate and no inverse of one
   abbrev pub NoT : Type 0
@@ -142,13 +166,15 @@ PairFits n first second = n + (hGates first + hGates second) ≤ mostVariables �
 
 -- all of it, for a pair
 pub record Demands (n : ℕ) (first second : List Gate) : Type 0 where
+  pub one-power : OnePower n first second
   pub equal-is-right : EqualIsRight n first second (compare 0 n first second)
-  pub equal-by-constant : EqualByConstant n first second (compare 0 n first second)
+  pub turned-is-right : TurnedIsRight n first second (compare 0 n first second)
+  pub by-constant : ByConstant n first second (compare 0 n first second)
   pub different-is-right : DifferentIsRight n first second (compare 0 n first second)
   pub by-the-steps : ByTheSteps n first second (compare 0 n first second)
   pub reached-by-steps : ReachedBySteps n first second
   pub blocked-as-shown : BlockedAsShown n first second
-  pub inputs-only-if-different : InputsOnlyIfDifferent n first second (compare 0 n first second)
+  pub inputs-as-said : InputsAsSaid n first second (compare 0 n first second)
   pub counts-add-up : CountsAddUp n first second (compare 0 n first second)
   pub steps-within-h-gates : StepsWithinHGates n first second (compare 0 n first second)
   pub clifford-is-decided : CliffordIsDecided n first second (compare 0 n first second)

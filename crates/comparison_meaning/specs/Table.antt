@@ -1,11 +1,11 @@
--- Pairs of gate lists with the result of their comparison: document 01's rows marked P, and rows that tell the choices of its steps
--- apart. proofs/Anchors.antt proves them by computation.
+-- Pairs of gate lists with the result of their comparison: document 01's rows marked P, as item 4 of document 02 has them, rows that tell the
+-- choices of its steps apart, and rows of every power of ω. proofs/Anchors.antt proves them by computation.
 -- Assumes nothing.
 use mathlib.Core.Path.{_≡_}
-use Prim.Native.Nat.{ℕ}
+use Prim.Native.Nat.{ℕ, zero, suc}
 use mathlib.Core.List.{List, [], _∷_}
-use Rattle.record_format.specs.Gate.{Gate, one, two, X, Z, S, S†, T, T†, H, CX, CZ, SWAP}
-use Rattle.comparison_meaning.specs.Verdict.{Verdict, equal, different, undecided, Result, compare}
+use Rattle.record_format.specs.Gate.{Gate, one, two, X, Y, Z, S, S†, T, T†, H, CX, CZ, SWAP}
+use Rattle.comparison_meaning.specs.Verdict.{Verdict, equal, different, undecided, turned, Result, compare}
 
 -- two lists on n qubits, and what their comparison gives
 pub record Case : Type 0 where
@@ -39,7 +39,7 @@ rows =
     -- H H H H
     ∷ case 1 (one H 0 ∷ one H 0 ∷ one H 0 ∷ one H 0 ∷ []) [] (says equal 0 0 1 1 0 1 0)
     -- S H S H S H
-    ∷ case 1 (one S 0 ∷ one H 0 ∷ one S 0 ∷ one H 0 ∷ one S 0 ∷ one H 0 ∷ []) [] (says equal 0 0 1 1 1 0 0)
+    ∷ case 1 (one S 0 ∷ one H 0 ∷ one S 0 ∷ one H 0 ∷ one S 0 ∷ one H 0 ∷ []) [] (says turned 7 0 1 1 1 0 0)
     -- T T and S
     ∷ case 1 (one T 0 ∷ one T 0 ∷ []) (one S 0 ∷ []) (says equal 0 0 0 0 0 0 0)
     -- T
@@ -94,12 +94,37 @@ choices =
     ∷ case 1 (one H 0 ∷ one T 0 ∷ one T† 0 ∷ one H 0 ∷ []) [] (says equal 0 0 1 1 0 0 0)
     -- pinning is blocked at qubits 0 and 2: it goes from qubit 0 upwards
     ∷ case 4 (two SWAP 0 1 ∷ two SWAP 2 3 ∷ []) [] (says different 1 1 0 0 0 0 0)
-    -- T on a complemented parity turns back: with T on the parity itself only a common turn is left
-    ∷ case 1 (one X 0 ∷ one T 0 ∷ one X 0 ∷ one T 0 ∷ []) [] (says equal 0 0 0 0 0 0 0)
+    -- T on a complemented parity turns back: with T on the parity itself only a common power of ω is left
+    ∷ case 1 (one X 0 ∷ one T 0 ∷ one X 0 ∷ one T 0 ∷ []) [] (says turned 7 0 0 0 0 0 0)
     -- a doubly controlled Z differs from nothing only at the input of weight 3
     ∷ case 3 doublyControlledZ [] (says different 0 7 0 0 0 0 0)
     -- S in the second list is undone by its inverse
     ∷ case 1 (one S 0 ∷ []) (one S 0 ∷ []) (says equal 0 0 0 0 0 0 0)
     -- a list may be undecided against itself: the steps go by the sum, and do not see that the lists are the same
     ∷ case 2 undecidedWithItself undecidedWithItself (says undecided 0 0 2 0 0 1 4)
+    ∷ []
+
+-- X T X T, k times: ω to the power k
+abbrev pub turnsOf : ℕ → List Gate
+turnsOf zero = []
+turnsOf (suc k) = one X 0 ∷ one T 0 ∷ one X 0 ∷ one T 0 ∷ turnsOf k
+
+-- rows of every power of ω: which one is shown, and in which direction
+abbrev pub powers : List Case
+powers =
+    case 1 (turnsOf 1) [] (says turned 7 0 0 0 0 0 0)
+    ∷ case 1 (turnsOf 2) [] (says turned 6 0 0 0 0 0 0)
+    ∷ case 1 (turnsOf 3) [] (says turned 5 0 0 0 0 0 0)
+    ∷ case 1 (turnsOf 4) [] (says turned 4 0 0 0 0 0 0)
+    ∷ case 1 (turnsOf 5) [] (says turned 3 0 0 0 0 0 0)
+    ∷ case 1 (turnsOf 6) [] (says turned 2 0 0 0 0 0 0)
+    ∷ case 1 (turnsOf 7) [] (says turned 1 0 0 0 0 0 0)
+    ∷ case 1 (turnsOf 8) [] (says equal 0 0 0 0 0 0 0)
+    -- the lists exchanged: the inverse power
+    ∷ case 1 [] (turnsOf 1) (says turned 1 0 0 0 0 0 0)
+    -- Y has its factor ω²: Z X without it
+    ∷ case 1 (one Z 0 ∷ one X 0 ∷ []) (one Y 0 ∷ []) (says turned 2 0 0 0 0 0 0)
+    ∷ case 1 (one Y 0 ∷ []) (one Z 0 ∷ one X 0 ∷ []) (says turned 6 0 0 0 0 0 0)
+    -- and is its own inverse exactly
+    ∷ case 1 (one Y 0 ∷ one Y 0 ∷ []) [] (says equal 0 0 0 0 0 0 0)
     ∷ []

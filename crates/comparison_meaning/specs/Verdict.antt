@@ -1,4 +1,4 @@
--- The search over inputs of weight up to 3, the verdict, its two inputs and the counts: document 01, "Reducing it".
+-- The search over inputs of weight up to 3, the verdict, its two inputs and the counts: document 01, "Reducing it", and document 02, item 4.
 -- Assumes nothing.
 use Prim.Native.Nat.{ℕ, zero, suc, _+_, _%_, _^_}
 use mathlib.Core.Bool.{true, false, cond, not}
@@ -10,7 +10,7 @@ use Rattle.record_format.specs.Gate.{Gate, inverseList}
 use Rattle.amplitude.specs.Bits.{bit}
 use Rattle.phase_sum_meaning.specs.Sets.{firstIn, from, firstSuch}
 use Rattle.phase_sum_meaning.specs.Parity.{Parity}
-use Rattle.phase_sum_meaning.specs.Phase.{Phase, phaseAt}
+use Rattle.phase_sum_meaning.specs.Phase.{Phase, phaseAt, minus}
 use Rattle.phase_sum_meaning.specs.Building.{build}
 use Rattle.comparison_meaning.specs.Reduction.{End, pinned, reduceEnd}
 
@@ -29,23 +29,30 @@ candidates scratch n = weight scratch 1 n ++ weight scratch 2 n ++ weight scratc
 abbrev pub firstDiffering : Phase → List ℕ → Option ℕ
 firstDiffering φ vs = firstSuch (λ v. not (eqb (phaseAt φ v % 8) (phaseAt φ 0 % 8))) vs
 
--- the three verdicts
+-- the four verdicts. Turned is document 02's: a power of ω other than 1, a global phase, carries the first list to the second
 pub data Verdict : Type 0 where
-  equal different undecided : Verdict
+  equal different undecided turned : Verdict
 
--- document 01's number of a verdict
+-- the number of a verdict in documents 01 and 02
 abbrev pub number : Verdict → ℕ
 number equal = 0
 number different = 1
 number undecided = 2
+number turned = 3
 
--- the verdict of a number. (No verdict has a number above 2.)
+-- the verdict of a number. (No verdict has a number above 3.)
 abbrev pub numbered : ℕ → Verdict
 numbered zero = equal
 numbered (suc zero) = different
-numbered (suc (suc k)) = undecided
+numbered (suc (suc zero)) = undecided
+numbered (suc (suc (suc k))) = turned
 
--- what the comparison returns: the verdict, its two inputs and the five counts
+-- the verdict where ω^j, j below 8, carries the first list to the second: equal where that is 1, else turned
+abbrev pub agreement : ℕ → Verdict
+agreement zero = equal
+agreement (suc j) = turned
+
+-- what the comparison returns: the verdict, its two inputs (of turned: the power of ω, and 0) and the five counts
 pub record Result : Type 0 where
   pub verdict : Verdict
   pub first : ℕ
@@ -83,14 +90,18 @@ result v a b e =
 unfoldable pub blockedInput : ℕ → Parity → ℕ
 blockedInput n q = cond (q .flipped) 0 (elim (firstIn (from 0 n) (q .vars)) [ none ↦ 0 | some v ↦ 2 ^ v ])
 
--- no path variable is left: the search decides, unless pins and sums differ
+-- the power of ω that carries the first list to the second, where the phase that is left is the same at every input: minus its constant
+abbrev pub power : End → ℕ
+power e = minus (e .sum .phase .constant)
+
+-- no path variable is left: the search decides, unless pins and sums differ. Where it finds nothing, the power of ω is shown
 unfoldable pub searched : ℕ → ℕ → End → Result
 searched scratch n e =
     elim (eqb (e .counts .pins) (e .counts .sums)) [
       | false ↦ result different 0 0 e
       | true ↦ elim (firstDiffering (e .sum .phase) (candidates scratch n)) [
         | some v ↦ result different 0 v e
-        | none ↦ result equal 0 0 e
+        | none ↦ result (agreement (power e)) (power e) 0 e
       ]
     ]
 

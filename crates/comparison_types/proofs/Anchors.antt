@@ -12,26 +12,30 @@ use Rattle.record_format.specs.Row.{first}
 use Rattle.record_format.specs.Reading.{accepted}
 use Rattle.amplitude.specs.Circuit.{tally}
 use Rattle.comparison_meaning.specs.Verdict as verdict
-use Rattle.comparison_meaning.specs.Verdict.{Result, equal, different, undecided, number}
+use Rattle.comparison_meaning.specs.Verdict.{Result, equal, different, undecided, turned, number}
 use Rattle.comparison_types.specs.Call.{verdictNumber, verdictOf, workspaceRows, pairFault, PairFault, ofPair, says, refuses, leftBy, Choice, theFirst, theSecond, choice, pickedAt}
 use Rattle.comparison_types.specs.declared.Verdict.{Verdict}
-use Rattle.comparison_types.specs.declared.Verdict.the-variants.{Equal, Different, Undecided}
+use Rattle.comparison_types.specs.declared.Verdict.the-variants.{Equal, Different, Undecided, Turned}
 
 -- each case of the enum stands for the verdict of its name
-pub verdicts-named : (verdictOf Equal ≡ equal) × ((verdictOf Different ≡ different) × (verdictOf Undecided ≡ undecided))
-verdicts-named = (refl, (refl, refl))
+pub verdicts-named :
+    (verdictOf Equal ≡ equal)
+    × ((verdictOf Different ≡ different) × ((verdictOf Undecided ≡ undecided) × (verdictOf Turned ≡ turned)))
+verdicts-named = (refl, (refl, (refl, refl)))
 
 -- and has its verdict's number
 pub verdict-numbered : (v : Verdict) → number (verdictOf v) ≡ verdictNumber v
 verdict-numbered Equal = refl
 verdict-numbered Different = refl
 verdict-numbered Undecided = refl
+verdict-numbered Turned = refl
 
 -- which the report's writer takes
 pub verdict-known : (v : Verdict) → verdictNumber v ≤ lastVerdict
 verdict-known Equal = omega arith
 verdict-known Different = omega arith
 verdict-known Undecided = omega arith
+verdict-known Turned = omega arith
 
 -- so many H gates
 abbrev hadamards : ℕ → List Gate
@@ -74,9 +78,10 @@ chosen v gs hs =
 pub fewer-t-gates :
     (chosen equal (one T 0 ∷ one T 0 ∷ []) (one S 0 ∷ []) ≡ theSecond)
     × ((chosen different (one T 0 ∷ one T 0 ∷ []) (one S 0 ∷ []) ≡ theFirst)
-    × (chosen undecided (one T 0 ∷ one T 0 ∷ []) (one S 0 ∷ []) ≡ theFirst))
+    × ((chosen undecided (one T 0 ∷ one T 0 ∷ []) (one S 0 ∷ []) ≡ theFirst)
+    × (chosen turned (one T 0 ∷ one T 0 ∷ []) (one S 0 ∷ []) ≡ theFirst)))
 unfolding choice tally
-fewer-t-gates = (refl, (refl, refl))
+fewer-t-gates = (refl, (refl, (refl, refl)))
 
 -- with as many T gates the shorter one, and the first where both are as long
 pub on-a-tie :

@@ -29,10 +29,10 @@ use Rattle.phase_sum_types.proofs.Acceptance.{buildable}
 use Rattle.comparison_meaning.specs.Reduction as reduction
 use Rattle.comparison_meaning.specs.Reduction.{pinned, reduceEnd}
 use Rattle.comparison_meaning.specs.Verdict.{Result, miter, judge, compare}
-use Rattle.comparison_meaning.specs.Demands.{Accepted, Demands, EqualIsRight, DifferentIsRight, ByTheSteps, InputsOnlyIfDifferent, CliffordIsDecided, CountsAddUp, StepsWithinHGates}
+use Rattle.comparison_meaning.specs.Demands.{Accepted, Demands, OnePower, ByTheSteps, InputsAsSaid, CliffordIsDecided, CountsAddUp, StepsWithinHGates}
 use Rattle.comparison_meaning.proofs.Bytes.{demands-pair}
 use Rattle.comparison_types.specs.Call.{PairFault, says, refuses, faultOf, resultOf, saidOf, pairRows, workspaceRows, pairFault, compareRead, unlessFault, comparison}
-use Rattle.comparison_types.specs.Clauses.{ForResult, Sound, Stops, Inputs, Clifford, CountsUp}
+use Rattle.comparison_types.specs.Clauses.{ForResult, Right, Sound, Stops, Inputs, Clifford, CountsUp}
 use Rattle.comparison_types.specs.Inner.{AcceptedWith, foundFault, PairRead}
 use Rattle.comparison_types.specs.declared.Outcome.{Outcome}
 use Rattle.comparison_types.specs.declared.Refusal.{Refusal}
@@ -176,11 +176,11 @@ module _ (s t : List ℕ) (w c : ℕ) (a : Answer) (said : saidOf a ≡ comparis
   holds P proof n first second o pair is =
       rw (outcome-is n first second o pair is) (proof n first second (demands-pair s t n first second pair))
 
-  -- equal and different are said only where that is right
+  -- equal, turned and different are said only where that is right
   pub sound-said : Sound s t a
   sound-said =
-      holds (λ n first second r. EqualIsRight n first second r × DifferentIsRight n first second r)
-      (λ n first second d. (d .equal-is-right, d .different-is-right))
+      holds (λ n first second r. Right n first second r × OnePower n first second)
+      (λ n first second d. ((d .equal-is-right, d .turned-is-right, d .different-is-right), d .one-power))
 
   -- all the clauses
   pub clauses-said : Sound s t a × (Stops s t a × (Inputs s t a × (Clifford s t a × CountsUp s t a)))
@@ -189,7 +189,7 @@ module _ (s t : List ℕ) (w c : ℕ) (a : Answer) (said : saidOf a ≡ comparis
     (
       holds (λ n first second r. ByTheSteps n first second r) (λ n first second d. d .by-the-steps),
       (
-        holds (λ n first second r. InputsOnlyIfDifferent n first second r) (λ n first second d. d .inputs-only-if-different),
+        holds (λ n first second r. InputsAsSaid n first second r) (λ n first second d. d .inputs-as-said),
         (
           holds (λ n first second r. CliffordIsDecided n first second r) (λ n first second d. d .clifford-is-decided),
           holds (λ n first second r. CountsAddUp n first second r × StepsWithinHGates n first second r)

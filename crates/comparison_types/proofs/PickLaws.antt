@@ -16,15 +16,15 @@ use Rattle.record_format.specs.Row.{first}
 use Rattle.record_format.specs.Reading.{Reading, accepted, refused, read, count, size, body, recordRows, gatesIn}
 use Rattle.record_format.proofs.Encoding.{length-raws}
 use Rattle.amplitude.specs.Number.{√2^}
-use Rattle.amplitude.specs.Circuit.{hGates, tGates, column}
+use Rattle.amplitude.specs.Circuit.{hGates, tGates, column, Carries}
 use Rattle.amplitude.proofs.Linear.{ω^-zero}
-use Rattle.comparison_meaning.specs.Demands.{Accepted, SomePower}
+use Rattle.comparison_meaning.specs.Demands.{Accepted}
 use Rattle.comparison_meaning.specs.Verdict.{Result}
 use Rattle.comparison_types.specs.Call.{PairFault, ofPair, faultOf, Said, says, refuses, verdictOf, resultOf, saidOf, workspaceRows, pairFault, compareRead, unlessFault, comparison, leftBy, better, Choice, theFirst, theSecond, nothing, isEqual, choice, picked, ownBytes, pickedPart, pickedAt}
 use Rattle.comparison_types.specs.Clauses.{Sound, PickIsRight, EmptyIfRefused}
 use Rattle.comparison_types.specs.Inner.{AcceptedWith, ComparedRead}
 use Rattle.comparison_types.specs.declared.Verdict.{Verdict}
-use Rattle.comparison_types.specs.declared.Verdict.the-variants.{Equal, Different, Undecided}
+use Rattle.comparison_types.specs.declared.Verdict.the-variants.{Equal, Different, Undecided, Turned}
 use Rattle.comparison_types.specs.declared.Refusal.{Refusal}
 use Rattle.comparison_types.specs.declared.Outcome.{Outcome}
 use Rattle.comparison_types.specs.declared.Comparison.{Comparison}
@@ -95,9 +95,9 @@ own-reads s n gs e =
     long
     ∙ e
 
--- every list is carried to itself by the power 0
-itself : (n : ℕ) (gs : List Gate) → SomePower n gs gs
-itself n gs = (0, omega arith, λ v below w below′. ω^-zero (√2^ (hGates gs) (column gs v w)))
+-- the amplitudes of every list agree with themselves
+itself : (n : ℕ) (gs : List Gate) → Carries n 0 gs gs
+itself n gs v below w below′ = ω^-zero (√2^ (hGates gs) (column gs v w))
 
 module _ (gs hs : List Gate) where
   -- a list with fewer T gates is better
@@ -148,6 +148,7 @@ is-equal : (v : Verdict) → isEqual (verdictOf v) ≡ true → v ≡ Equal
 is-equal Equal h = refl
 is-equal Different h = let z : _≡_ {A = ℕ} 0 1 = cc in absurd (omega arith)
 is-equal Undecided h = let z : _≡_ {A = ℕ} 0 1 = cc in absurd (omega arith)
+is-equal Turned h = let z : _≡_ {A = ℕ} 0 1 = cc in absurd (omega arith)
 
 -- two lists on other numbers of qubits are refused
 other-qubits : (n m w c : ℕ) (gs hs : List Gate) (a : Said) → eqb n m ≡ false
@@ -194,16 +195,16 @@ module _ (s t : List ℕ) (w c : ℕ) where
   picked-refused a r said is = picked-nothing (faultOf r) (sym said ∙ ap saidOf is)
 
   module _ (a : Answer) (said : saidOf a ≡ comparison s t w c) (sound : Sound s t a) where
-    -- equal is said only where some power of ω carries the pair
-    some-power : (n : ℕ) (gs hs : List Gate) (o : Result) → Accepted s t n gs hs → comparison s t w c ≡ says o
-        → isEqual (o .verdict) ≡ true → SomePower n gs hs
-    some-power n gs hs o pair compared equal = go a refl (said ∙ compared)
+    -- equal is said only where all amplitudes agree
+    amplitudes-agree : (n : ℕ) (gs hs : List Gate) (o : Result) → Accepted s t n gs hs → comparison s t w c ≡ says o
+        → isEqual (o .verdict) ≡ true → Carries n 0 gs hs
+    amplitudes-agree n gs hs o pair compared equal = go a refl (said ∙ compared)
       where
-        go : (b : Answer) → a ≡ b → saidOf b ≡ says o → SomePower n gs hs
+        go : (b : Answer) → a ≡ b → saidOf b ≡ says o → Carries n 0 gs hs
         go (Compared out) is h =
             let whole : resultOf out ≡ o = cc in
             let same : verdictOf (out .verdict) ≡ o .verdict = ap (λ (r : Result). r .verdict) whole in
-            sound n gs hs out pair is .0 (ap verdictOf (is-equal (out .verdict) (rw same equal)))
+            sound n gs hs out pair is .0 .0 (ap verdictOf (is-equal (out .verdict) (rw same equal)))
         go (Refused r) is h = let z : _≡_ {A = ℕ} 0 1 = cc in absurd (omega arith)
 
     -- the part that is handed back is right
@@ -215,12 +216,12 @@ module _ (s t : List ℕ) (w c : ℕ) where
         go : (p q : Bool) → isEqual (o .verdict) ≡ p → better gs hs ≡ q
             → (chosen : List Gate)
             × (read (pickedPart (cond (p && q) theSecond theFirst) s t) ≡ accepted n chosen)
-            × SomePower n gs chosen
+            × Carries n 0 gs chosen
             × (tGates chosen ≤ tGates gs)
         go true true equal is-better = (
           hs,
           own-reads t n hs (pair .reads-second),
-          some-power n gs hs o pair compared equal,
+          amplitudes-agree n gs hs o pair compared equal,
           better-few gs hs is-better,
         )
         go true false equal is-better = (gs, own-reads s n gs (pair .reads-first), itself n gs, omega arith)

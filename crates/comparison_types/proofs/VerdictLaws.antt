@@ -21,7 +21,7 @@ use Rattle.phase_sum_meaning.specs.Phase.{Phase}
 use Rattle.phase_sum_meaning.specs.Room.{mostVariables}
 use Rattle.phase_sum_meaning.proofs.VariableLaws.{from-among}
 use Rattle.comparison_meaning.specs.Reduction.{End, reduceEnd}
-use Rattle.comparison_meaning.specs.Verdict.{candidates, firstDiffering, different, equal, result, searched}
+use Rattle.comparison_meaning.specs.Verdict.{candidates, firstDiffering, different, result, agreement, power, searched}
 use Rattle.comparison_meaning.proofs.Weight.{search-some}
 use Rattle.phase_sum_types.specs.Workspace.{members}
 use Rattle.comparison_types.specs.Inner.{inputOf}
@@ -96,10 +96,10 @@ module _ (n : ℕ) (e : End) where
   unfolding searched
   searched-found r even i ne = rw (eq-eqb (e .counts .pins) (e .counts .sums) even, input-found r _ i ne, searched)
 
-  -- equal, where it found none
+  -- equal or turned, where it found none
   pub searched-none :
       (r : ℕ) → e .counts .pins ≡ e .counts .sums → inputOf r ≡ firstDiffering (e .sum .phase) (candidates 0 n) → r ≡ 0 →
-      searched 0 n e ≡ result equal 0 0 e
+      searched 0 n e ≡ result (agreement (power e)) (power e) 0 e
   unfolding searched
   searched-none r even i z = rw (eq-eqb (e .counts .pins) (e .counts .sums) even, input-none r _ i z, searched)
 

@@ -16,7 +16,7 @@ use Rattle.phase_sum_meaning.specs.Room.{mostVariables, places}
 use Rattle.comparison_meaning.specs.Verdict as verdict
 use Rattle.comparison_meaning.specs.Verdict.{Result, numbered, compare}
 use Rattle.comparison_types.specs.declared.Verdict.{Verdict}
-use Rattle.comparison_types.specs.declared.Verdict.the-variants.{Equal, Different, Undecided}
+use Rattle.comparison_types.specs.declared.Verdict.the-variants.{Equal, Different, Undecided, Turned}
 use Rattle.comparison_types.specs.declared.Outcome.{Outcome}
 use Rattle.comparison_types.specs.declared.Refusal.{Refusal}
 use Rattle.comparison_types.specs.declared.Refusal.the-variants.{QubitsDiffer, TooManyVariables, BlockTooLarge, WorkspaceShort}
@@ -52,11 +52,12 @@ pub data Said : Type 0 where
   says : Result → Said
   refuses : PairFault → Said
 
--- document 01's number of a verdict
+-- the number of a verdict in documents 01 and 02
 abbrev pub verdictNumber : Verdict → ℕ
 verdictNumber Equal = 0
 verdictNumber Different = 1
 verdictNumber Undecided = 2
+verdictNumber Turned = 3
 
 -- the verdict that an enum's case stands for
 abbrev pub verdictOf : Verdict → verdict.Verdict
@@ -132,13 +133,14 @@ better gs hs = ltb (tGates hs) (tGates gs) || (eqb (tGates hs) (tGates gs) && lt
 pub data Choice : Type 0 where
   theFirst theSecond nothing : Choice
 
--- a verdict of equal
+-- a verdict of equal. (A pair that a turn carries is not: under a control qubit the turn shows.)
 abbrev pub isEqual : verdict.Verdict → Bool
 isEqual verdict.equal = true
 isEqual verdict.different = false
 isEqual verdict.undecided = false
+isEqual verdict.turned = false
 
--- if equal, the better one; the first if different or undecided; nothing if refused
+-- if equal, the better one; the first if different, undecided or turned; nothing if refused
 unfoldable pub choice : Said → Reading → Reading → Choice
 choice (refuses f) r q = nothing
 choice (says o) (accepted n gs) (accepted m hs) = cond (isEqual (o .verdict)) (cond (better gs hs) theSecond theFirst) theFirst

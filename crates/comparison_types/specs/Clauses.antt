@@ -7,8 +7,8 @@ use Prim.Native.Nat.{ℕ, _≤_}
 use mathlib.Core.List.{List, []}
 use Rattle.record_format.specs.Gate.{Gate}
 use Rattle.record_format.specs.Reading.{accepted, read}
-use Rattle.amplitude.specs.Circuit.{tGates}
-use Rattle.comparison_meaning.specs.Demands.{Accepted, SomePower, EqualIsRight, DifferentIsRight, ByTheSteps, InputsOnlyIfDifferent, CliffordIsDecided, CountsAddUp, StepsWithinHGates}
+use Rattle.amplitude.specs.Circuit.{Carries, tGates}
+use Rattle.comparison_meaning.specs.Demands.{Accepted, OnePower, EqualIsRight, TurnedIsRight, DifferentIsRight, ByTheSteps, InputsAsSaid, CliffordIsDecided, CountsAddUp, StepsWithinHGates}
 use Rattle.comparison_meaning.specs.Verdict.{Result}
 use Rattle.comparison_types.specs.Call.{PairFault, comparison, says, refuses, resultOf}
 use Rattle.comparison_types.specs.declared.Outcome.{Outcome}
@@ -20,19 +20,25 @@ abbrev pub ForResult : List ℕ → List ℕ → Answer → (ℕ → List Gate �
 ForResult s t a Demand =
     (n : ℕ) (first second : List Gate) (o : Outcome) → Accepted s t n first second → a ≡ Compared o → Demand n first second (resultOf o)
 
--- sound, demand 2: equal is said only where one power of ω carries the pair, different only with two inputs whose columns none fits
+-- what a verdict says of a pair is right: equal, turned and different
+abbrev pub Right : ℕ → List Gate → List Gate → Result → Type 0
+Right n first second r = EqualIsRight n first second r × TurnedIsRight n first second r × DifferentIsRight n first second r
+
+-- sound, demand 2: equal is said only where all amplitudes agree, turned only where the power of ω that is shown carries the pair, different
+-- only with two inputs whose columns no power fits; and no other power carries the pair
 abbrev pub Sound : List ℕ → List ℕ → Answer → Type 0
-Sound s t a = ForResult s t a (λ n first second r. EqualIsRight n first second r × DifferentIsRight n first second r)
+Sound s t a = ForResult s t a (λ n first second r. Right n first second r × OnePower n first second)
 
 -- stops, demand 2: the outcome is that of document 01's steps in their order, and of no others; undecided exactly where they stop
 abbrev pub Stops : List ℕ → List ℕ → Answer → Type 0
 Stops s t a = ForResult s t a (λ n first second r. ByTheSteps n first second r)
 
--- inputs: 0 and 0 unless different
+-- inputs: 0 and 0 where equal or undecided, and the second 0 where turned
 abbrev pub Inputs : List ℕ → List ℕ → Answer → Type 0
-Inputs s t a = ForResult s t a (λ n first second r. InputsOnlyIfDifferent n first second r)
+Inputs s t a = ForResult s t a (λ n first second r. InputsAsSaid n first second r)
 
--- clifford, demand 3: without T, equal exactly where one power of ω carries the pair, otherwise different, never undecided
+-- clifford, demand 3: without T, equal exactly where all amplitudes agree, turned with j exactly where ω^j, j from 1 to 7, carries the pair,
+-- different exactly where no power does, never undecided
 abbrev pub Clifford : List ℕ → List ℕ → Answer → Type 0
 Clifford s t a = ForResult s t a (λ n first second r. CliffordIsDecided n first second r)
 
@@ -40,13 +46,13 @@ Clifford s t a = ForResult s t a (λ n first second r. CliffordIsDecided n first
 abbrev pub CountsUp : List ℕ → List ℕ → Answer → Type 0
 CountsUp s t a = ForResult s t a (λ n first second r. CountsAddUp n first second r × StepsWithinHGates n first second r)
 
--- the pick's part is an accepted record; one power of ω carries the first list to it, and it has at most the first list's T gates
+-- the pick's part is an accepted record; all its amplitudes are the first list's, exactly, and it has at most the first list's T gates
 abbrev pub PickIsRight : List ℕ → List ℕ → ℕ → ℕ → List ℕ → Type 0
 PickIsRight s t w c part =
     (n : ℕ) (first second : List Gate) (o : Result) →
     Accepted s t n first second →
     comparison s t w c ≡ says o →
-    (chosen : List Gate) × (read part ≡ accepted n chosen) × SomePower n first chosen × (tGates chosen ≤ tGates first)
+    (chosen : List Gate) × (read part ≡ accepted n chosen) × Carries n 0 first chosen × (tGates chosen ≤ tGates first)
 
 -- it is empty exactly where the comparison refuses
 abbrev pub EmptyIfRefused : List ℕ → List ℕ → ℕ → ℕ → List ℕ → Type 0

@@ -1,23 +1,29 @@
 // The comparison layer, its base: answers and numbers, where a reduction stands, and what the contracts of the layer say (specs/). Document
-// 01, "Reducing it", "Report, pick, builder" and "Where a call is turned down". Licensees use `comparison`.
+// 01, "Reducing it", "Report, pick, builder" and "Where a call is turned down"; document 02, item 4. Licensees use `comparison`.
 ghost use mathlib.Core.Path.{_≡_};
 ghost use Prim.Native.Nat.{_≤_};
 ghost use Rattle.record_format.specs.Format.{lastVerdict};
 ghost use Rattle.record_format.specs.Answer.{fields};
-ghost use Rattle.comparison_meaning.specs.Verdict.{numbers};
-ghost use Rattle.comparison_types.specs.Call.{numberOf, verdictNumber, resultOf};
+ghost use Rattle.comparison_meaning.specs.Verdict.{numbers, agreement};
+ghost use Rattle.comparison_types.specs.Call.{numberOf, verdictNumber, verdictOf, resultOf};
 use phase_sum_types::Parity;
 use phase_sum_types::Sum;
 use record_format::Report;
 
-// The three verdicts.
+// The four verdicts.
 pub enum Verdict {
+    // all amplitudes agree exactly
     Equal,
+    // no single power of ω carries both columns shown
     Different,
+    // the steps stop with path variables left and none ready
     Undecided,
+    // a power of ω other than 1 carries the first list to the second
+    Turned,
 }
 
-// What the comparison found: the verdict, two inputs (0 unless different) and document 01's five counts.
+// What the comparison found: the verdict, two inputs and document 01's five counts. The inputs are those that a difference shows; of turned
+// the first is the power of ω, 1 to 7; else they are 0.
 pub struct Outcome {
     pub verdict: Verdict,
     pub first: u16,
@@ -73,7 +79,18 @@ pub fn verdict_number(v: Verdict) -> u8
         Verdict::Equal => 0,
         Verdict::Different => 1,
         Verdict::Undecided => 2,
+        Verdict::Turned => 3,
     }
+}
+
+// The verdict where ω^j, j below 8, carries the first list to the second: equal where that is 1, else turned.
+pub fn agreement(j: u8) -> Verdict
+    ensures { λ v. ⌜ verdictOf v ≡ agreement j ⌝ }
+{
+    if j == 0 {
+        return Verdict::Equal;
+    }
+    Verdict::Turned
 }
 
 // An outcome as the eight fields of the report record. Its verdict is one that the report's writer takes.

@@ -43,9 +43,9 @@ lastKind = 10
 abbrev pub noQubit : ℕ
 noQubit = 255
 
--- verdicts: 0 equal, 1 different, 2 undecided
+-- verdicts: 0 equal, 1 different, 2 undecided, 3 turned
 abbrev pub lastVerdict : ℕ
-lastVerdict = 2
+lastVerdict = 3
 
 -- a two-byte number, low byte first
 abbrev pub twoBytes : ℕ → List ℕ

@@ -27,7 +27,7 @@ pub enum Refusal {
     SpareByte { gate: usize },
     // 6: a qubit of the gate at this index is not below n, or its two qubits are one
     QubitRange { gate: usize },
-    // 5: a report's verdict is above 2
+    // 5: a report's verdict is above 3
     UnknownVerdict,
     // 11: the buffer is shorter than the new record
     BufferShort,
@@ -45,7 +45,7 @@ pub enum Written {
     Refused(Refusal),
 }
 
-// A report's eight fields. Verdict: 0 equal, 1 different, 2 undecided.
+// A report's eight fields. Verdict: 0 equal, 1 different, 2 undecided, 3 turned.
 pub struct Report {
     pub verdict: u8,
     pub first: u16,

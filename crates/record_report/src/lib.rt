@@ -18,7 +18,7 @@ pub const REPORT_MARK: [u8; 2] = [0x51, 0x56];
 pub const REPORT_SIZE: usize = 12;
 
 // Verdicts are from 0 to this.
-pub const LAST_VERDICT: u8 = 2;
+pub const LAST_VERDICT: u8 = 3;
 
 // The twelve bytes of a report at the front of the buffer: 5, then 11.
 pub fn write_report(buffer: &mut [u8], report: Report) -> Written
