@@ -1,14 +1,15 @@
-// The dense comparison of two gate lists, as licensees call it: document 02, item 2. For blocks of at most six qubits with at most 60 H
-// gates it says equal or different and never undecided. It takes any bytes and any buffer, refuses by number what is bad, and then changes
+// The dense comparison of two gate lists, as licensees call it: document 02, items 2 and 4. For blocks of at most six qubits with at most 60
+// H gates it says equal, turned or different and never undecided. It takes any bytes and any buffer, refuses by number what is bad, and then changes
 // nothing that it was lent. All that is public here is the call, an answer or its number, or a limit; verdicts and refusals are those of
 // `comparison`.
 ghost use mathlib.Core.Path.{_≡_};
 ghost use lib.ListN.{length};
 ghost use Rattle.dense_types.specs.Call.{found, foundOf, saidOf, denseComparison, leftBy};
 ghost use Rattle.dense_types.specs.Clauses.{Exact, Sound, First, Inputs, Agrees};
-ghost use Rattle.dense_judging.specs.Judging.{unfitOf};
+ghost use Rattle.dense_judging.specs.Judging.{findingIn};
 pub use comparison_types::Refusal;
 pub use comparison_types::Verdict;
+use comparison_types::agreement;
 pub use comparison_types::number;
 pub use comparison_types::verdict_number;
 pub use dense_checking::BLOCK_H_GATES;
@@ -24,12 +25,12 @@ use record_reading::gate_bytes;
 
 // The outcome of what the columns show.
 fn outcome_of(judged: Judged) -> Outcome
-    ensures { λ r. ⌜ foundOf r ≡ found (unfitOf judged) ⌝ }
+    ensures { λ r. ⌜ foundOf r ≡ found (findingIn judged) ⌝ }
 {
     match judged {
-        Judged::Equal => Outcome {
-            verdict: Verdict::Equal,
-            first: 0,
+        Judged::Carried(j) => Outcome {
+            verdict: agreement(j),
+            first: j as u16,
             second: 0,
         },
         Judged::Different(v) => Outcome {

@@ -3,7 +3,6 @@
 use mathlib.Core.Path.{_≡_}
 use Prim.Native.Nat.{ℕ, _+_, _%_, _≤_}
 use mathlib.Core.List.{List}
-use mathlib.Core.Option.{Option, none, some}
 use lib.ListN.{length, take, drop}
 use lib.IntN.{ℤ}
 use Rattle.record_format.specs.Gate.{Gate, AllWithin}
@@ -11,10 +10,11 @@ use Rattle.record_format.specs.Reading.{gatesIn}
 use Rattle.amplitude.specs.Circuit.{State, hGates}
 use Rattle.amplitude.specs.Testing.{scaledColumn}
 use Rattle.dense_meaning.specs.Limits.{blockQubits}
+use Rattle.dense_meaning.specs.Columns.{Finding, carriedBy, unfitAt}
 use Rattle.dense_numbers.specs.Numbers.{mostDoublings}
 use Rattle.dense_columns.specs.Columns.{amplitudeAt, Holds}
 use Rattle.dense_judging.specs.declared.Judged.{Judged}
-use Rattle.dense_judging.specs.declared.Judged.the-variants.{Equal, Different}
+use Rattle.dense_judging.specs.declared.Judged.the-variants.{Carried, Different}
 
 -- a block: two lists by their bytes, on n qubits, with h and k H gates
 pub record Block (n : ℕ) (first second : List ℕ) (h k : ℕ) : Type 0 where
@@ -44,7 +44,7 @@ pub record Halved (n : ℕ) (first second : List Gate) (v : ℕ) (xs : List ℤ)
   pub left : Holds n (scaledColumn (hGates second) first v) (take half xs)
   pub right : Holds n (scaledColumn (hGates first) second v) (take half (drop half xs))
 
--- the first input at which no power fits, if there is one
-abbrev pub unfitOf : Judged → Option ℕ
-unfitOf Equal = none
-unfitOf (Different v) = some v
+-- what is found, as the answer has it
+abbrev pub findingIn : Judged → Finding
+findingIn (Carried j) = carriedBy j
+findingIn (Different v) = unfitAt v

@@ -8,10 +8,10 @@ ghost use lib.IntN.{pos};
 ghost use Rattle.record_format.specs.Reading.{gatesIn};
 ghost use Rattle.amplitude.specs.Testing.{carriesState};
 ghost use Rattle.dense_meaning.specs.Limits.{blockQubits, bufferSize};
-ghost use Rattle.dense_meaning.specs.Columns.{firstUnfit};
+ghost use Rattle.dense_meaning.specs.Columns.{finding};
 ghost use Rattle.dense_numbers.specs.Numbers.{mostDoublings};
 ghost use Rattle.dense_columns.specs.Columns.{amplitudeAt, AllSized};
-ghost use Rattle.dense_judging.specs.Judging.{Block, leftOf, rightOf, Halved, unfitOf};
+ghost use Rattle.dense_judging.specs.Judging.{Block, leftOf, rightOf, Halved, findingIn};
 use dense_columns::clear;
 use dense_columns::load;
 use dense_columns::power;
@@ -28,9 +28,9 @@ pub const BUFFER_SIZE: usize = 512;
 // The powers of ω.
 const POWERS: u8 = 8;
 
-// What comparing all columns finds: a power that fits them all, or the first input at which none is left.
+// What comparing all columns finds: the power of ω that carries them all, or the first input at which none is left.
 pub enum Judged {
-    Equal,
+    Carried(u8),
     Different(u16),
 }
 
@@ -94,7 +94,7 @@ fn judge_columns(
     k: usize,
 ) -> Judged
     requires { ⌜ Block n (now first) (now second) h k × (length (now buffer) ≡ bufferSize) ⌝ }
-    ensures { λ r. ⌜ unfitOf r ≡ firstUnfit n (gatesIn (now (first .entry))) (gatesIn (now (second .entry))) ⌝ }
+    ensures { λ r. ⌜ findingIn r ≡ finding n (gatesIn (now (first .entry))) (gatesIn (now (second .entry))) ⌝ }
 {
     run_both(buffer, n, first, second, 0, h, k);
     let j = first_power(buffer, n);
@@ -110,7 +110,7 @@ fn judge_columns(
         }
         v += 1;
     }
-    Judged::Equal
+    Judged::Carried(j)
 }
 
 // The same in a buffer that is zero afterwards.
@@ -123,7 +123,7 @@ pub fn judge(
     k: usize,
 ) -> Judged
     requires { ⌜ Block n (now first) (now second) h k × (length (now buffer) ≡ bufferSize) ⌝ }
-    ensures judged { λ r. ⌜ unfitOf r ≡ firstUnfit n (gatesIn (now (first .entry))) (gatesIn (now (second .entry))) ⌝ }
+    ensures judged { λ r. ⌜ findingIn r ≡ finding n (gatesIn (now (first .entry))) (gatesIn (now (second .entry))) ⌝ }
     ensures zero { λ _. ⌜ now (buffer .exit) ≡ replicate bufferSize (pos 0) ⌝ }
 {
     let judged = judge_columns(buffer, n, first, second, h, k);

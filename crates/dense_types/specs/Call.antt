@@ -1,4 +1,4 @@
--- What the dense comparison answers and what the lent buffer holds afterwards: document 02, item 2.
+-- What the dense comparison answers and what the lent buffer holds afterwards: document 02, items 2 and 4.
 -- Assumes nothing.
 use Prim.Native.Nat.{ℕ, _+_}
 use mathlib.Core.Bool.{_||_}
@@ -11,28 +11,28 @@ use Rattle.record_format.specs.Gate.{Gate}
 use Rattle.record_format.specs.Row.{Row}
 use Rattle.record_format.specs.Reading.{qubits, gates, read}
 use Rattle.amplitude.specs.Circuit.{hGates}
-use Rattle.comparison_meaning.specs.Verdict.{Verdict, equal, different}
+use Rattle.comparison_meaning.specs.Verdict.{Verdict, different, agreement}
 use Rattle.comparison_types.specs.Call.{PairFault, pairRow, pairFault, faultOf, verdictOf}
 use Rattle.dense_meaning.specs.Limits.{blockQubits, blockHGates, bufferSize}
-use Rattle.dense_meaning.specs.Columns.{firstUnfit}
+use Rattle.dense_meaning.specs.Columns.{Finding, carriedBy, unfitAt, finding}
 use Rattle.dense_types.specs.declared.Outcome.{Outcome}
 use Rattle.dense_types.specs.declared.Answer.{Answer}
 use Rattle.dense_types.specs.declared.Answer.the-variants.{Compared, Refused}
 
--- what is found: the verdict and its two inputs
+-- what is found: the verdict and its two inputs (of turned: the power of ω, and 0)
 pub record Found : Type 0 where
   pub verdict : Verdict
   pub first : ℕ
   pub second : ℕ
 
--- equal, with 0 and 0, where some power fits all columns; else different, with input 0 and the first input at which none is left
-abbrev pub found : Option ℕ → Found
-found none = record { verdict = equal; first = 0; second = 0 }
-found (some v) = record { verdict = different; first = 0; second = v }
+-- equal or turned, with the power that fits all columns; else different, with input 0 and the first input at which none is left
+abbrev pub found : Finding → Found
+found (carriedBy j) = record { verdict = agreement j; first = j; second = 0 }
+found (unfitAt v) = record { verdict = different; first = 0; second = v }
 
 -- the dense comparison of two lists on n qubits
 abbrev pub compareColumns : ℕ → List Gate → List Gate → Found
-compareColumns n gs hs = found (firstUnfit n gs hs)
+compareColumns n gs hs = found (finding n gs hs)
 
 -- what the call says: what is found, or why the pair is turned down and nothing else
 pub data Said : Type 0 where

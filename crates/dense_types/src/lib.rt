@@ -1,8 +1,9 @@
-// The dense layer, its answers: types, and what the call answers and promises (specs/). Document 02, item 2. Licensees use `dense`.
+// The dense layer, its answers: types, and what the call answers and promises (specs/). Document 02, items 2 and 4. Licensees use `dense`.
 use comparison_types::Refusal;
 use comparison_types::Verdict;
 
-// What the dense comparison found: the verdict, equal or different, and two inputs (0 unless different).
+// What the dense comparison found: the verdict, never undecided, and two inputs. They are those that a difference shows; of turned the first is
+// the power of ω, 1 to 7; else they are 0.
 pub struct Outcome {
     pub verdict: Verdict,
     pub first: u16,
