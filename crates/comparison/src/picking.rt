@@ -37,6 +37,7 @@ fn takes_second(verdict: Verdict, first: &[u8], second: &[u8]) -> bool
         Verdict::Equal => second_is_better(first, second),
         Verdict::Different => false,
         Verdict::Undecided => false,
+        Verdict::Turned => false,
     }
 }
 
@@ -49,8 +50,8 @@ fn whole(s: &[u8], g: usize) -> &[u8]
     &s[..HEAD_SIZE + GATE_SIZE * g]
 }
 
-// Of two lists that compare equal, the record of the better one, as the caller's own part; the first if they are different or undecided;
-// an empty part of the first if the pair is turned down.
+// Of two lists that compare equal, the record of the better one, as the caller's own part; the first if they are different, undecided or
+// turned; an empty part of the first if the pair is turned down.
 pub fn pick<'a, 'b, 'c>(
     first: &'a [u8],
     second: &'a [u8],

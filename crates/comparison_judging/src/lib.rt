@@ -13,10 +13,12 @@ use comparison_types::Counts;
 use comparison_types::End;
 use comparison_types::Outcome;
 use comparison_types::Verdict;
+use comparison_types::agreement;
 use phase_sum_sets::below;
 use phase_sum_sets::count;
 use phase_sum_sets::is_empty;
 use phase_sum_sets::lowest;
+use phase_sum_terms::terms::negate;
 use phase_sum_types::Found;
 use phase_sum_types::Parity;
 use phase_sum_types::Sum;
@@ -51,7 +53,8 @@ fn outcome(sum: Sum, counts: Counts, verdict: Verdict, first: u16, second: u16) 
     }
 }
 
-// No path variable is left: different unless pins and sums agree, else the search decides.
+// No path variable is left: different unless pins and sums agree, else the search decides. Where it finds nothing, minus the constant is the
+// power of ω that carries the first list to the second.
 fn searched(sum: Sum, counts: Counts, n: usize, sets: &[u64], coeffs: &[u8]) -> Outcome
     requires { ⌜ (n ≤ 16) × (sum .phase .count ≤ length (now sets)) × (sum .phase .count ≤ length (now coeffs)) ⌝ }
     ensures { λ r. ⌜ ((ws : List ℕ) (fs : List Bool) (by : Parity) → resultOf r ≡ searched 0 n (endOf (unblocked by sum counts) (slices ws fs (now (sets .entry)) (now (coeffs .entry))))) ⌝ }
@@ -64,7 +67,9 @@ fn searched(sum: Sum, counts: Counts, n: usize, sets: &[u64], coeffs: &[u8]) -> 
     if found != 0 {
         return outcome(sum, counts, Verdict::Different, 0, found as u16);
     }
-    outcome(sum, counts, Verdict::Equal, 0, 0)
+    let constant = phase.constant;
+    let j = negate(constant);
+    outcome(sum, counts, agreement(j), j as u16, 0)
 }
 
 // The verdict on n qubits.

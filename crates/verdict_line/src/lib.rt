@@ -17,5 +17,6 @@ pub fn write_verdict(verdict: Verdict, numbers: &[u16], line: &mut [u8; LINE_SIZ
         Verdict::Equal => put_line(line, b"equal", numbers),
         Verdict::Different => put_line(line, b"different", numbers),
         Verdict::Undecided => put_line(line, b"undecided", numbers),
+        Verdict::Turned => put_line(line, b"turned", numbers),
     }
 }

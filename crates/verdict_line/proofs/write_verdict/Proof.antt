@@ -31,6 +31,15 @@ slice-aggregate-put-line-3 c = search needs
 put-line-requires-3 : tie.Need-put-line-requires-3
 put-line-requires-3 c κs = search needs
 
+enum-told-4 : tie.Need-enum-told-4
+enum-told-4 c = search needs
+
+slice-aggregate-put-line-4 : tie.Need-slice-aggregate-put-line-4
+slice-aggregate-put-line-4 c = search needs
+
+put-line-requires-4 : tie.Need-put-line-requires-4
+put-line-requires-4 c κs = search needs
+
 returns : tie.Need-returns
 returns c = rw (c .before .before .before .enum-told .given .1) (c .put-line .ensures)
 
@@ -39,6 +48,9 @@ returns-2 c = rw (c .before .before .before .enum-told2 .given .1) (c .put-line2
 
 returns-3 : tie.Need-returns-3
 returns-3 c = rw (c .before .before .before .enum-told3 .given .1) (c .put-line3 .ensures)
+
+returns-4 : tie.Need-returns-4
+returns-4 c = rw (c .before .before .before .enum-told4 .given .1) (c .put-line4 .ensures)
 
 pub write-verdict-spec : {M : Type 1} → statement M
 write-verdict-spec =
@@ -53,6 +65,10 @@ write-verdict-spec =
     enum-told-3
     slice-aggregate-put-line-3
     put-line-requires-3
+    enum-told-4
+    slice-aggregate-put-line-4
+    put-line-requires-4
     returns
     returns-2
-    returns-3)
+    returns-3
+    returns-4)
