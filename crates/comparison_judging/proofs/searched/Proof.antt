@@ -1,4 +1,5 @@
--- `comparison_judging::searched` meets its contract: where pins and sums differ the verdict is different, else what the search found decides, and an input that it found fits 16 bits.
+-- `comparison_judging::searched` meets its contract: where pins and sums differ the verdict is different, else what the search found decides,
+-- and an input that it found fits 16 bits; where it found none, minus the constant is the power of ω that is shown.
 -- Assumes nothing.
 use mathlib.Core.Path.{sym, _∙_}
 use mathlib.Core.Bool.{Bool}
@@ -49,15 +50,28 @@ returns-2 c ws fs by =
     let found = searched-found (start .args .n) (ended (start) ws fs by) (c .before .before .search .result) (at-if1 .if1 .left) in
     c .outcome2 .ensures (slices ws fs [] []) by ∙ sym (found (c .before .before .search .ensures) (c .before .if2 .taken))
 
+negate-requires : tie.Need-negate-requires
+negate-requires c κs = search needs
+
+agreement-requires : tie.Need-agreement-requires
+agreement-requires c κs = search needs
+
+cast-outcome-2 : tie.Need-cast-outcome-2
+cast-outcome-2 c = search needs
+
 outcome-requires-3 : tie.Need-outcome-requires-3
 outcome-requires-3 c κs = search needs
 
 returns-3 : tie.Need-returns-3
 returns-3 c ws fs by =
-    let at-if1 = c .before .before .before in
+    let at-negate = c .before .before in
+    let at-if2 = at-negate .before in
+    let at-search = at-if2 .before in
+    let at-if1 = at-search .before in
     let start = at-if1 .before .before .before .before .before in
-    let none-found = searched-none (start .args .n) (ended (start) ws fs by) (c .before .before .search .result) (at-if1 .if1 .left) in
-    c .outcome3 .ensures (slices ws fs [] []) by ∙ sym (none-found (c .before .before .search .ensures) (c .before .if2 .left))
+    let none-found = searched-none (start .args .n) (ended (start) ws fs by) (at-search .search .result) (at-if1 .if1 .left) in
+    (rw (c .before .agreement .ensures, at-negate .negate .ensures) at (c .outcome3 .ensures (slices ws fs [] []) by))
+    ∙ sym (none-found (at-search .search .ensures) (at-if2 .if2 .left))
 
 pub searched-spec : {M : Type 1} → statement M
 searched-spec =
@@ -70,5 +84,8 @@ searched-spec =
     cast-outcome
     outcome-requires-2
     returns-2
+    negate-requires
+    agreement-requires
+    cast-outcome-2
     outcome-requires-3
     returns-3)
