@@ -2,7 +2,7 @@
 -- the room that the terms take.
 -- Assumes nothing.
 use mathlib.Core.Path.{_≡_, refl, sym, _∙_, ap}
-use mathlib.Core.Logic.{inl, ⊎-elim}
+use mathlib.Core.Logic.{_⊎_, inl, inr, ⊎-elim}
 use mathlib.Core.Bool.{true, true≢false}
 use mathlib.Core.List.{List}
 use mathlib.Core.Option.{none, some}
@@ -21,7 +21,7 @@ use Rattle.phase_sum_meaning.proofs.Evenness.{OddIn, InputsOnly, ready-even, no
 use Rattle.phase_sum_meaning.proofs.Roominess.{room-build}
 use Rattle.comparison_meaning.specs.Reduction.{End, factor}
 use Rattle.comparison_meaning.specs.Verdict.{Verdict, equal, different, undecided, turned, number, Result, candidates, firstDiffering, blockedInput, power, reducedOf, compare, miter, pinnedOf}
-use Rattle.comparison_meaning.specs.Demands.{SomePower, OnePower, Turn, EqualIsRight, TurnedIsRight, ByConstant, DifferentIsRight, ByTheSteps, ReachedBySteps, InputsAsSaid, CountsAddUp, StepsWithinHGates, DecidedBy, Decided, CliffordIsDecided, EvenIsDecided, EveryStep, EndOfSteps, BuiltFits, EveryStepFits, Demands, BlockedAsShown, EverySumIsCanonical}
+use Rattle.comparison_meaning.specs.Demands.{SomePower, OnePower, Turn, EqualIsRight, TurnedIsRight, ByConstant, DifferentIsRight, ByTheSteps, ReachedBySteps, InputsAsSaid, CountsAddUp, StepsWithinHGates, DecidedBy, AsTheTermsSay, Decided, CliffordIsDecided, EvenIsDecided, EveryStep, EndOfSteps, BuiltFits, EveryStepFits, Demands, BlockedAsShown, EverySumIsCanonical}
 use Rattle.comparison_meaning.specs.Course.{Continues, further, halted, Done, Judged, blocked, unsized, found, same, rotated, Shown, shows}
 use Rattle.comparison_meaning.proofs.Weight.{search-some}
 use Rattle.comparison_meaning.proofs.Pinning.{blocked-input, pin-blocked}
@@ -68,6 +68,20 @@ decided-by n first second one different shown agree carries apart decides =
       not-undecided = decides;
     }
 decided-by n first second one undecided shown agree carries apart decides = absurd (decides refl)
+
+-- and it is as the terms say
+pub as-the-terms-say :
+    (n : ℕ) (first second : List Gate) (v : Verdict) (shown : ℕ) → DecidedBy n first second v shown → AsTheTermsSay n first second v
+as-the-terms-say n first second equal shown d = ((λ h. (0, omega arith, d .equal-if .0 refl), λ h. inl refl), inl (inl refl))
+as-the-terms-say n first second turned shown d =
+    let (turn, carried) = d .turned-if shown .0 (refl, refl) in
+    ((λ h. (shown, turn .1, carried), λ h. inr refl), inl (inr refl))
+as-the-terms-say n first second different shown d =
+    let apart : (different ≡ equal) ⊎ (different ≡ turned) → ⊥ =
+    ⊎-elim (λ h. omega (arith, ap number h)) (λ h. omega (arith, ap number h))
+    in
+    ((λ h. absurd (apart h), λ h. absurd (d .different-if .0 refl h)), inr refl)
+as-the-terms-say n first second undecided shown d = absurd (d .not-undecided refl)
 
 module _ (n : ℕ) (first second : List Gate) (l : AllWithin n first) (r : AllWithin n second) where
   -- how the reduction ends

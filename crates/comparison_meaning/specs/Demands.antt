@@ -107,6 +107,11 @@ module _ (n : ℕ) (first second : List Gate) where
     pub different-if : (v ≡ different) ↔ (SomePower → ⊥)
     pub not-undecided : v ≡ undecided → ⊥
 
+  -- demand 3 in the terms' own words, with turned beside equal: one of the two is said exactly when one power of ω carries the pair,
+  -- otherwise different (`as-the-terms-say` in proofs/Theorems.antt)
+  abbrev pub AsTheTermsSay : Verdict → Type 0
+  AsTheTermsSay v = (((v ≡ equal) ⊎ (v ≡ turned)) ↔ SomePower) × (((v ≡ equal) ⊎ (v ≡ turned)) ⊎ (v ≡ different))
+
   -- so it is with a result
   abbrev pub Decided : Result → Type 0
   Decided answer = DecidedBy (answer .verdict) (answer .first)

@@ -1,5 +1,5 @@
 -- Worked cases of the definitions, by computation: which row of the table comes first where several hold, the index of a refused
--- gate, and what an inverse is.
+-- gate, what an inverse is, and which verdicts a report may carry.
 -- Assumes nothing.
 use mathlib.Core.Path.{_≡_, refl}
 use Prim.Native.Nat.{ℕ}
@@ -8,7 +8,10 @@ use Rattle.record_format.specs.Format.{listMark}
 use Rattle.record_format.specs.Gate.{everyKind, one, two, S, S†, T†, T, H, CX, gateOf, inverseKind, inverseGate, inverseList}
 use Rattle.record_format.specs.Row.{fault, faultAt, first}
 use Rattle.record_format.specs.Reading.{raws, allGateRows, recordRows, accepted, refused, read}
-use Rattle.record_format.specs.Writing.{gatePart, gatesAt}
+use Rattle.record_format.specs.Answer.{gives, refuses}
+use Rattle.record_format.specs.Writing.{gatePart, gatesAt, write}
+use Rattle.record_format.specs.Report.{reportBytes, writeReport, readReport}
+use Rattle.record_format.specs.declared.Report.{Report}
 
 -- four bytes with another mark: too short comes before the mark
 pub short-before-mark : read (0 ∷ 0 ∷ 1 ∷ 0 ∷ []) ≡ refused (fault 1)
@@ -96,3 +99,22 @@ part-of-one = refl
 -- the part starts five bytes behind the record's start
 pub part-starts : _≡_ {A = ℕ × ℕ} (gatesAt (accepted 1 []) (0, 7)) (0, 12)
 part-starts = refl
+
+-- a report of this verdict, with other numbers in its other fields
+abbrev report : ℕ → Report
+report v = record { verdict = v; first = 258; second = 772; pins = 5; sums = 6; turns = 7; joins = 8; left = 9 }
+
+-- verdicts 0 to 3 are read from a report, and 4 is refused by 5
+pub verdicts-read :
+    (readReport (reportBytes (report 0)) ≡ gives (0 ∷ 258 ∷ 772 ∷ 5 ∷ 6 ∷ 7 ∷ 8 ∷ 9 ∷ []))
+    × ((readReport (reportBytes (report 3)) ≡ gives (3 ∷ 258 ∷ 772 ∷ 5 ∷ 6 ∷ 7 ∷ 8 ∷ 9 ∷ []))
+    × (readReport (reportBytes (report 4)) ≡ refuses (fault 5)))
+unfolding readReport first
+verdicts-read = (refl, (refl, refl))
+
+-- and so they are written
+pub verdicts-written :
+    (writeReport (report 3) (reportBytes (report 0)) .answer ≡ gives (12 ∷ []))
+    × (writeReport (report 4) (reportBytes (report 0)) .answer ≡ refuses (fault 5))
+unfolding writeReport first write
+verdicts-written = (refl, refl)
