@@ -18,7 +18,7 @@ use Rattle.phase_sum_meaning.proofs.Evenness.{OddIn, InputsOnly}
 use Rattle.comparison_meaning.specs.Reduction.{End, reduceFrom, reduceEnd}
 use Rattle.comparison_meaning.specs.Steps.{Steps, Blocked}
 use Rattle.comparison_meaning.specs.Course.{Continues, further, halted, Done, Judged, blocked, unready, unsized, found, same, rotated, Shown, shows}
-use Rattle.comparison_meaning.specs.Verdict.{candidates, firstDiffering, Verdict, equal, different, undecided, turned, Result, left, result, agreement, power, searched, judge}
+use Rattle.comparison_meaning.specs.Verdict.{candidates, firstDiffering, Verdict, equal, undecided, turned, Result, left, result, agreement, power, searched, judge}
 use Rattle.comparison_meaning.proofs.Reducing.{reduces-from, reduce-steps, reduce-stops, even-decides, reduce-blocks}
 
 -- reducing what pinning left is document 01's course

@@ -13,7 +13,7 @@ use Rattle.record_format.specs.Reading.{accepted, read}
 use Rattle.amplitude.specs.Number.{√2^}
 use Rattle.amplitude.specs.Circuit.{Fits, Carries, column, hGates, tGates}
 use Rattle.phase_sum_meaning.specs.Parity.{Parity}
-use Rattle.phase_sum_meaning.specs.Phase.{Canonical, minus, inOdd}
+use Rattle.phase_sum_meaning.specs.Phase.{Canonical, inOdd}
 use Rattle.phase_sum_meaning.specs.Building.{PathSum, build}
 use Rattle.phase_sum_meaning.specs.Meaning.{remaining}
 use Rattle.phase_sum_meaning.specs.Room.{room, mostVariables, places}
