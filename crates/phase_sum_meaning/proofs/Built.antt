@@ -526,7 +526,7 @@ fresh-hadamard n q s l fresh =
     add c p φ h e = every-addPhase (λ t. Below (n + suc (length (s .live))) (t .set)) c p φ (λ k. h) e
 
 -- a gate keeps a sum fresh
-pub fresh-gate : (n : ℕ) (g : Gate) (s : PathSum) → Within n g → Fresh n s → Fresh n (gate 2 n g s)
+pub fresh-gate : (n : ℕ) (g : Gate) (s : PathSum) → Within n g → Fresh n s → Fresh n (gate n g s)
 unfolding gateBy complement _⊕_ withPhase setWire addConstant
 fresh-gate n (one X q) s l fresh = fresh-set n q (complement (wire q s)) s l (fresh .wires q l) fresh
 fresh-gate n (one Y q) s l fresh =
@@ -612,7 +612,7 @@ diagonal-step n v u c q ψ s e l same w lw =
 
 -- Y, as Z, X and a turn by 2
 pub Y-step : (n v q : ℕ) (ψ : State) (s : PathSum) → q < n → length (s .wires) ≡ n → Agrees n v ψ s →
-    Agrees n v (apply (one Y q) ψ) (gate 2 n (one Y q) s)
+    Agrees n v (apply (one Y q) ψ) (gate n (one Y q) s)
 unfolding gateBy matrix withPhase
 Y-step n v q ψ s l long same w lw =
     apply-crossing Y (λ t. 2 + 4 * digit (not t)) q ψ w refl
@@ -632,7 +632,7 @@ Y-step n v q ψ s l long same w lw =
 
 -- one gate on the state and on the sum
 pub gate-step : (n v : ℕ) (g : Gate) (ψ : State) (s : PathSum) → Within n g → Fresh n s → Agrees n v ψ s →
-    Agrees n v (apply g ψ) (gate 2 n g s)
+    Agrees n v (apply g ψ) (gate n g s)
 unfolding gateBy matrix apply ω^
 gate-step n v (one X q) ψ s l fresh same w lw =
     apply-crossing X (λ t. 0) q ψ w refl
@@ -665,11 +665,11 @@ gate-step n v (two SWAP a b) ψ s l fresh same w lw =
 
 -- the gates of a list, one after another
 pub gates-step : (n v : ℕ) (gs : List Gate) (ψ : State) (s : PathSum) → AllWithin n gs → Fresh n s → Agrees n v ψ s →
-    Agrees n v (run gs ψ) (gatesFrom 2 n gs s)
+    Agrees n v (run gs ψ) (gatesFrom n gs s)
 unfolding run gatesFrom
 gates-step n v [] ψ s within fresh same = same
 gates-step n v (g ∷ gs) ψ s within fresh same =
-    gates-step n v gs (apply g ψ) (gate 2 n g s) (within .1) (fresh-gate n g s (within .0) fresh)
+    gates-step n v gs (apply g ψ) (gate n g s) (within .1) (fresh-gate n g s (within .0) fresh)
     (gate-step n v g ψ s (within .0) fresh same)
 
 -- the built sum is the amplitude, exactly, from every input that is clear of the scratch qubits

@@ -158,31 +158,31 @@ unfolding withPhase
 noOdd-product u v s e = noOdd-addPhase 6 (_⊕_ u v) _ refl (noOdd-addPhase 2 v _ refl (noOdd-addPhase 2 u (s .phase) refl e))
 
 -- nor does a gate other than T and its inverse
-noOdd-gate : (y n : ℕ) (g : Gate) (s : PathSum) → isT g ≡ 0 → NoOdd (s .phase .terms) → NoOdd (gate y n g s .phase .terms)
+noOdd-gate : (n : ℕ) (g : Gate) (s : PathSum) → isT g ≡ 0 → NoOdd (s .phase .terms) → NoOdd (gate n g s .phase .terms)
 unfolding gateBy setWire withPhase hadamardBy addConstant oneQubitKind
-noOdd-gate y n (one X q) s h e = e
-noOdd-gate y n (one Y q) s h e = noOdd-addPhase 4 (wire q s) (s .phase) refl e
-noOdd-gate y n (one Z q) s h e = noOdd-addPhase 4 (wire q s) (s .phase) refl e
-noOdd-gate y n (one S q) s h e = noOdd-addPhase 2 (wire q s) (s .phase) refl e
-noOdd-gate y n (one S† q) s h e = noOdd-addPhase 6 (wire q s) (s .phase) refl e
-noOdd-gate y n (one T q) s h e = absurd (omega arith)
-noOdd-gate y n (one T† q) s h e = absurd (omega arith)
-noOdd-gate y n (one H q) s h e = noOdd-product (wire q s) (of (single (n + length (s .live)))) s e
-noOdd-gate y n (two CX a b) s h e = e
-noOdd-gate y n (two CZ a b) s h e = noOdd-product (wire a s) (wire b s) s e
-noOdd-gate y n (two SWAP a b) s h e = e
+noOdd-gate n (one X q) s h e = e
+noOdd-gate n (one Y q) s h e = noOdd-addPhase 4 (wire q s) (s .phase) refl e
+noOdd-gate n (one Z q) s h e = noOdd-addPhase 4 (wire q s) (s .phase) refl e
+noOdd-gate n (one S q) s h e = noOdd-addPhase 2 (wire q s) (s .phase) refl e
+noOdd-gate n (one S† q) s h e = noOdd-addPhase 6 (wire q s) (s .phase) refl e
+noOdd-gate n (one T q) s h e = absurd (omega arith)
+noOdd-gate n (one T† q) s h e = absurd (omega arith)
+noOdd-gate n (one H q) s h e = noOdd-product (wire q s) (of (single (n + length (s .live)))) s e
+noOdd-gate n (two CX a b) s h e = e
+noOdd-gate n (two CZ a b) s h e = noOdd-product (wire a s) (wire b s) s e
+noOdd-gate n (two SWAP a b) s h e = e
 
 -- nor a list without them
 noOdd-gates :
-    (y n : ℕ) (gs : List Gate) (s : PathSum) →
+    (n : ℕ) (gs : List Gate) (s : PathSum) →
     tGates gs ≡ 0 →
     NoOdd (s .phase .terms) →
-    NoOdd (gatesFrom y n gs s .phase .terms)
+    NoOdd (gatesFrom n gs s .phase .terms)
 unfolding gatesFrom tally
-noOdd-gates y n [] s h e = e
-noOdd-gates y n (g ∷ gs) s h e = noOdd-gates y n gs (gate y n g s) (omega arith) (noOdd-gate y n g s (omega arith) e)
+noOdd-gates n [] s h e = e
+noOdd-gates n (g ∷ gs) s h e = noOdd-gates n gs (gate n g s) (omega arith) (noOdd-gate n g s (omega arith) e)
 
 -- the sum of a list without T gates has no odd coefficient
 pub noOdd-build : (scratch n : ℕ) (gs : List Gate) → tGates gs ≡ 0 → NoOdd (build scratch n gs .phase .terms)
 unfolding build initial
-noOdd-build scratch n gs h = noOdd-gates 2 n gs (initial scratch n) h tt
+noOdd-build scratch n gs h = noOdd-gates n gs (initial scratch n) h tt

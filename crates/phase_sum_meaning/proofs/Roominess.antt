@@ -33,34 +33,34 @@ terms-product u v s =
     omega (arith, length-addPhase 2 u (s .phase), length-addPhase 2 v one, length-addPhase 6 (_⊕_ u v) two)
 
 -- a gate adds at most its room
-room-gate : (y n : ℕ) (g : Gate) (s : PathSum) → size (gate y n g s) ≤ roomFor g + size s
+room-gate : (n : ℕ) (g : Gate) (s : PathSum) → size (gate n g s) ≤ roomFor g + size s
 unfolding gateBy setWire withPhase hadamardBy addConstant roomFor
-room-gate y n (one X q) s = omega arith
-room-gate y n (one Y q) s = omega (arith, length-addPhase 4 (wire q s) (s .phase))
-room-gate y n (one Z q) s = omega (arith, length-addPhase 4 (wire q s) (s .phase))
-room-gate y n (one S q) s = omega (arith, length-addPhase 2 (wire q s) (s .phase))
-room-gate y n (one S† q) s = omega (arith, length-addPhase 6 (wire q s) (s .phase))
-room-gate y n (one T q) s = omega (arith, length-addPhase 1 (wire q s) (s .phase))
-room-gate y n (one T† q) s = omega (arith, length-addPhase 7 (wire q s) (s .phase))
-room-gate y n (one H q) s =
+room-gate n (one X q) s = omega arith
+room-gate n (one Y q) s = omega (arith, length-addPhase 4 (wire q s) (s .phase))
+room-gate n (one Z q) s = omega (arith, length-addPhase 4 (wire q s) (s .phase))
+room-gate n (one S q) s = omega (arith, length-addPhase 2 (wire q s) (s .phase))
+room-gate n (one S† q) s = omega (arith, length-addPhase 6 (wire q s) (s .phase))
+room-gate n (one T q) s = omega (arith, length-addPhase 1 (wire q s) (s .phase))
+room-gate n (one T† q) s = omega (arith, length-addPhase 7 (wire q s) (s .phase))
+room-gate n (one H q) s =
     let v = n + length (s .live) in
     omega (arith, terms-product (wire q s) (of (single v)) s, length-append (s .live) (v ∷ []))
-room-gate y n (two CX a b) s = omega arith
-room-gate y n (two CZ a b) s = omega (arith, terms-product (wire a s) (wire b s) s)
-room-gate y n (two SWAP a b) s = omega arith
+room-gate n (two CX a b) s = omega arith
+room-gate n (two CZ a b) s = omega (arith, terms-product (wire a s) (wire b s) s)
+room-gate n (two SWAP a b) s = omega arith
 
 -- the gates of a list add at most their room
-room-gates : (y n : ℕ) (gs : List Gate) (s : PathSum) → size (gatesFrom y n gs s) ≤ tally roomFor gs + size s
+room-gates : (n : ℕ) (gs : List Gate) (s : PathSum) → size (gatesFrom n gs s) ≤ tally roomFor gs + size s
 unfolding gatesFrom tally
-room-gates y n [] s = omega arith
-room-gates y n (g ∷ gs) s = omega (arith, room-gates y n gs (gate y n g s), room-gate y n g s)
+room-gates n [] s = omega arith
+room-gates n (g ∷ gs) s = omega (arith, room-gates n gs (gate n g s), room-gate n g s)
 
 -- a built sum keeps to the room of its list
 pub room-build :
     (scratch n : ℕ) (gs : List Gate) →
     length (build scratch n gs .phase .terms) + length (build scratch n gs .live) ≤ tally roomFor gs
 unfolding build initial
-room-build scratch n gs = omega (arith, room-gates 2 n gs (initial scratch n))
+room-build scratch n gs = omega (arith, room-gates n gs (initial scratch n))
 
 -- a list and its inverse have the same room
 pub tally-inverse-room : (gs : List Gate) → tally roomFor (inverseList gs) ≡ tally roomFor gs

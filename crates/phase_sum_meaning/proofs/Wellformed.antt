@@ -174,31 +174,31 @@ held-hadamard n v q s h = (
     sound = (every-map _ _ (s .phase .terms) (λ t. old (t .set)) (h .0 .0), h .0 .1, h .0 .2)
 
 -- so does every gate
-held-gate : (y n : ℕ) (g : Gate) (s : PathSum) → Held n s → Held n (gate y n g s)
+held-gate : (n : ℕ) (g : Gate) (s : PathSum) → Held n s → Held n (gate n g s)
 unfolding gateBy setWire withPhase complement _⊕_
-held-gate y n (one X q) s h = held-setWire n q (complement (wire q s)) s (h .1 q) h
-held-gate y n (one Y q) s h =
+held-gate n (one X q) s h = held-setWire n q (complement (wire q s)) s (h .1 q) h
+held-gate n (one Y q) s h =
     let t = phaseBy addPhase 4 (wire q s) s in
     let ht : Held n t = held-turn n 4 q s h in
-    held-setWire n q (complement (wire q t)) (withPhase (addConstant y (t .phase)) t) (h .1 q)
-    (sound-addConstant n (s .live) y (t .phase) (ht .0), h .1)
-held-gate y n (one Z q) s h = held-turn n 4 q s h
-held-gate y n (one S q) s h = held-turn n 2 q s h
-held-gate y n (one S† q) s h = held-turn n 6 q s h
-held-gate y n (one T q) s h = held-turn n 1 q s h
-held-gate y n (one T† q) s h = held-turn n 7 q s h
-held-gate y n (one H q) s h = held-hadamard n (n + length (s .live)) q s h
-held-gate y n (two CX a b) s h =
+    held-setWire n q (complement (wire q t)) (withPhase (addConstant 2 (t .phase)) t) (h .1 q)
+    (sound-addConstant n (s .live) 2 (t .phase) (ht .0), h .1)
+held-gate n (one Z q) s h = held-turn n 4 q s h
+held-gate n (one S q) s h = held-turn n 2 q s h
+held-gate n (one S† q) s h = held-turn n 6 q s h
+held-gate n (one T q) s h = held-turn n 1 q s h
+held-gate n (one T† q) s h = held-turn n 7 q s h
+held-gate n (one H q) s h = held-hadamard n (n + length (s .live)) q s h
+held-gate n (two CX a b) s h =
     held-setWire n b (_⊕_ (wire b s) (wire a s)) s (holds-△ n (s .live) (wire b s .vars) (wire a s .vars) (h .1 b) (h .1 a)) h
-held-gate y n (two CZ a b) s h = (sound-product n (s .live) (wire a s) (wire b s) s (h .1 a) (h .1 b) (h .0), h .1)
-held-gate y n (two SWAP a b) s h =
+held-gate n (two CZ a b) s h = (sound-product n (s .live) (wire a s) (wire b s) s (h .1 a) (h .1 b) (h .0), h .1)
+held-gate n (two SWAP a b) s h =
     held-setWire n b (wire a s) (setWire a (wire b s) s) (h .1 a) (held-setWire n a (wire b s) s (h .1 b) h)
 
 -- so do the gates of a list
-held-gates : (y n : ℕ) (gs : List Gate) (s : PathSum) → Held n s → Held n (gatesFrom y n gs s)
+held-gates : (n : ℕ) (gs : List Gate) (s : PathSum) → Held n s → Held n (gatesFrom n gs s)
 unfolding gatesFrom
-held-gates y n [] s h = h
-held-gates y n (g ∷ gs) s h = held-gates y n gs (gate y n g s) (held-gate y n g s h)
+held-gates n [] s h = h
+held-gates n (g ∷ gs) s h = held-gates n gs (gate n g s) (held-gate n g s h)
 
 -- an input wire holds at most its own input
 holds-input : (scratch n : ℕ) (live : List ℕ) (q : ℕ) → q < n → Holds n live (input scratch q .vars)
@@ -221,30 +221,30 @@ held-initial scratch n = (
     inputs u a = holds-input scratch n [] u (omega (arith, from-among 0 n a))
 
 -- a gate brings a live variable where it is an H
-live-gate : (y n k : ℕ) (g : Gate) (s : PathSum) → s .live ≡ from n k → gate y n g s .live ≡ from n (k + isH g)
+live-gate : (n k : ℕ) (g : Gate) (s : PathSum) → s .live ≡ from n k → gate n g s .live ≡ from n (k + isH g)
 unfolding gateBy hadamardBy setWire withPhase oneQubitKind
-live-gate y n k (one X q) s e = rw add-zero e
-live-gate y n k (one Y q) s e = rw add-zero e
-live-gate y n k (one Z q) s e = rw add-zero e
-live-gate y n k (one S q) s e = rw add-zero e
-live-gate y n k (one S† q) s e = rw add-zero e
-live-gate y n k (one T q) s e = rw add-zero e
-live-gate y n k (one T† q) s e = rw add-zero e
-live-gate y n k (one H q) s e = rw (add-one, from-snoc, e, from-length)
-live-gate y n k (two CX a b) s e = rw add-zero e
-live-gate y n k (two CZ a b) s e = rw add-zero e
-live-gate y n k (two SWAP a b) s e = rw add-zero e
+live-gate n k (one X q) s e = rw add-zero e
+live-gate n k (one Y q) s e = rw add-zero e
+live-gate n k (one Z q) s e = rw add-zero e
+live-gate n k (one S q) s e = rw add-zero e
+live-gate n k (one S† q) s e = rw add-zero e
+live-gate n k (one T q) s e = rw add-zero e
+live-gate n k (one T† q) s e = rw add-zero e
+live-gate n k (one H q) s e = rw (add-one, from-snoc, e, from-length)
+live-gate n k (two CX a b) s e = rw add-zero e
+live-gate n k (two CZ a b) s e = rw add-zero e
+live-gate n k (two SWAP a b) s e = rw add-zero e
 
 -- a list brings as many live variables as it has H gates
-pub live-gates : (y n k : ℕ) (gs : List Gate) (s : PathSum) → s .live ≡ from n k → gatesFrom y n gs s .live ≡ from n (k + hGates gs)
+pub live-gates : (n k : ℕ) (gs : List Gate) (s : PathSum) → s .live ≡ from n k → gatesFrom n gs s .live ≡ from n (k + hGates gs)
 unfolding gatesFrom tally
-live-gates y n k [] s e = rw add-zero e
-live-gates y n k (g ∷ gs) s e = rw (← add-assoc) (live-gates y n (k + isH g) gs (gate y n g s) (live-gate y n k g s e))
+live-gates n k [] s e = rw add-zero e
+live-gates n k (g ∷ gs) s e = rw (← add-assoc) (live-gates n (k + isH g) gs (gate n g s) (live-gate n k g s e))
 
 -- the live variables of a built sum: n and those behind it, as many as the list has H gates
 pub live-build-from : (scratch n : ℕ) (gs : List Gate) → build scratch n gs .live ≡ from n (hGates gs)
 unfolding build
-live-build-from scratch n gs = rw zero-add at (live-gates 2 n 0 gs (initial scratch n) (unfold initial from in refl))
+live-build-from scratch n gs = rw zero-add at (live-gates n 0 gs (initial scratch n) (unfold initial from in refl))
 
 -- so their number is the number of H gates
 pub live-build : (scratch n : ℕ) (gs : List Gate) → length (build scratch n gs .live) ≡ hGates gs
@@ -264,7 +264,7 @@ good-build scratch n gs within = (
 )
   where
     held : Held n (build scratch n gs)
-    held = unfold build in held-gates 2 n gs (initial scratch n) (held-initial scratch n)
+    held = unfold build in held-gates n gs (initial scratch n) (held-initial scratch n)
 
 -- a set without z that holds only inputs and live variables holds only those other than z
 holds-without : (n z : ℕ) (live : List ℕ) (s : ℕ) → bit z s ≡ false → Holds n live s → Holds n (without z live) s

@@ -56,31 +56,31 @@ hadamardBy put v q s =
     let t = productBy put (wire q s) (of (single v)) s in
     record { phase = t .phase; wires = set (t .wires) q (of (single v)); live = t .live ++ v ∷ [] }
 
--- the table: what one gate does to the sum of a list on n qubits. Y is Z followed by X and its published factor ω^y, y = 2
-unfoldable pub gateBy : Putting → ℕ → ℕ → Gate → PathSum → PathSum
-gateBy put y n (one X q) s = setWire q (complement (wire q s)) s
-gateBy put y n (one Y q) s =
+-- the table: what one gate does to the sum of a list on n qubits. Y is Z followed by X, with its published factor ω²
+unfoldable pub gateBy : Putting → ℕ → Gate → PathSum → PathSum
+gateBy put n (one X q) s = setWire q (complement (wire q s)) s
+gateBy put n (one Y q) s =
     let t = phaseBy put 4 (wire q s) s in
-    setWire q (complement (wire q t)) (withPhase (addConstant y (t .phase)) t)
-gateBy put y n (one Z q) s = phaseBy put 4 (wire q s) s
-gateBy put y n (one S q) s = phaseBy put 2 (wire q s) s
-gateBy put y n (one S† q) s = phaseBy put 6 (wire q s) s
-gateBy put y n (one T q) s = phaseBy put 1 (wire q s) s
-gateBy put y n (one T† q) s = phaseBy put 7 (wire q s) s
-gateBy put y n (one H q) s = hadamardBy put (n + length (s .live)) q s
-gateBy put y n (two CX a b) s = setWire b (wire b s ⊕ wire a s) s
-gateBy put y n (two CZ a b) s = productBy put (wire a s) (wire b s) s
-gateBy put y n (two SWAP a b) s = setWire b (wire a s) (setWire a (wire b s) s)
+    setWire q (complement (wire q t)) (withPhase (addConstant 2 (t .phase)) t)
+gateBy put n (one Z q) s = phaseBy put 4 (wire q s) s
+gateBy put n (one S q) s = phaseBy put 2 (wire q s) s
+gateBy put n (one S† q) s = phaseBy put 6 (wire q s) s
+gateBy put n (one T q) s = phaseBy put 1 (wire q s) s
+gateBy put n (one T† q) s = phaseBy put 7 (wire q s) s
+gateBy put n (one H q) s = hadamardBy put (n + length (s .live)) q s
+gateBy put n (two CX a b) s = setWire b (wire b s ⊕ wire a s) s
+gateBy put n (two CZ a b) s = productBy put (wire a s) (wire b s) s
+gateBy put n (two SWAP a b) s = setWire b (wire a s) (setWire a (wire b s) s)
 
 -- that, with each phase merged at once
-abbrev pub gate : ℕ → ℕ → Gate → PathSum → PathSum
-gate y n g s = gateBy addPhase y n g s
+abbrev pub gate : ℕ → Gate → PathSum → PathSum
+gate n g s = gateBy addPhase n g s
 
 -- the gates in list order
-unfoldable pub gatesFrom : ℕ → ℕ → List Gate → PathSum → PathSum
-gatesFrom y n [] s = s
-gatesFrom y n (g ∷ gs) s = gatesFrom y n gs (gate y n g s)
+unfoldable pub gatesFrom : ℕ → List Gate → PathSum → PathSum
+gatesFrom n [] s = s
+gatesFrom n (g ∷ gs) s = gatesFrom n gs (gate n g s)
 
--- the sum of a list on n qubits, with the published Y
+-- the sum of a list on n qubits
 unfoldable pub build : ℕ → ℕ → List Gate → PathSum
-build scratch n gs = gatesFrom 2 n gs (initial scratch n)
+build scratch n gs = gatesFrom n gs (initial scratch n)

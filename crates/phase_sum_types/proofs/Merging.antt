@@ -254,7 +254,7 @@ abbrev pub mergedSum : PathSum → PathSum
 mergedSum s = withPhase (mergedPhase (s .phase)) s
 
 -- a gate with its terms behind the others, then merged, is the gate on the merged sum
-merged-gate : (n : ℕ) (g : Gate) (s : PathSum) → mergedSum (appendGate n g s) ≡ gate 2 n g (mergedSum s)
+merged-gate : (n : ℕ) (g : Gate) (s : PathSum) → mergedSum (appendGate n g s) ≡ gate n g (mergedSum s)
 unfolding gateBy withPhase setWire hadamardBy addConstant
 merged-gate n (one X q) s = refl
 merged-gate n (one Y q) s =
@@ -270,10 +270,10 @@ merged-gate n (two CZ a b) s = simp merged-put
 merged-gate n (two SWAP a b) s = refl
 
 -- gates with their terms one behind the other, merged at the end, are the gates merged one by one
-pub merged-gates : (n : ℕ) (gs : List Gate) (s : PathSum) → mergedSum (appendGates n gs s) ≡ gatesFrom 2 n gs (mergedSum s)
+pub merged-gates : (n : ℕ) (gs : List Gate) (s : PathSum) → mergedSum (appendGates n gs s) ≡ gatesFrom n gs (mergedSum s)
 unfolding appendGates gatesFrom
 merged-gates n [] s = refl
-merged-gates n (g ∷ gs) s = merged-gates n gs (appendGate n g s) ∙ ap (gatesFrom 2 n gs) (merged-gate n g s)
+merged-gates n (g ∷ gs) s = merged-gates n gs (appendGate n g s) ∙ ap (gatesFrom n gs) (merged-gate n g s)
 
 -- so is the sum of a list
 pub merged-build : (scratch n : ℕ) (gs : List Gate) → mergedSum (appendGates n gs (initial scratch n)) ≡ build scratch n gs

@@ -356,7 +356,7 @@ terms-gates n (g ∷ gs) s =
 -- gates bring as many live variables as they have H gates
 live-appended : (n k : ℕ) (gs : List Gate) (s : PathSum) → s .live ≡ from n k → appendGates n gs s .live ≡ from n (k + hGates gs)
 unfolding withPhase
-live-appended n k gs s e = ap (λ (t : PathSum). t .live) (merged-gates n gs s) ∙ live-gates 2 n k gs (mergedSum s) e
+live-appended n k gs s e = ap (λ (t : PathSum). t .live) (merged-gates n gs s) ∙ live-gates n k gs (mergedSum s) e
 
 -- a sum under construction stands for the path sum that was left, where its live variables are the next ones
 leaves-sum :

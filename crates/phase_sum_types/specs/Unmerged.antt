@@ -37,7 +37,7 @@ putBehind c p φ =
 
 -- what one gate does, with its terms behind the others
 abbrev pub appendGate : ℕ → Gate → PathSum → PathSum
-appendGate n g s = gateBy putBehind 2 n g s
+appendGate n g s = gateBy putBehind n g s
 
 -- the gates in list order
 unfoldable pub appendGates : ℕ → List Gate → PathSum → PathSum
