@@ -10,8 +10,9 @@ use Rattle.record_format.specs.Gate.{gateOf}
 use Rattle.record_format.specs.Row.{first}
 use Rattle.record_format.specs.Reading.{raws, recordRows, allGateRows, read}
 use Rattle.amplitude.specs.Circuit.{tally}
-use Rattle.comparison_meaning.specs.Verdict.{equal, different}
+use Rattle.comparison_meaning.specs.Verdict.{equal, different, turned}
 use Rattle.comparison_types.specs.Call.{PairFault, ofPair, pairFault}
+use Rattle.dense_meaning.specs.Columns.{carriedBy, unfitAt}
 use Rattle.dense_types.specs.Call.{found, says, refuses, blockRows, leftBy}
 
 -- the bytes of so many H gates
@@ -48,17 +49,20 @@ buffer-limit : (fault 1 0 0 511 ≡ some (ofPair 10)) × (fault 1 0 0 512 ≡ no
 unfolding fault
 buffer-limit = (refl, refl)
 
--- what is found: equal with 0 and 0, or different with 0 and the input
-found-none : found none ≡ record { verdict = equal; first = 0; second = 0 }
-found-none = refl
+-- what is said of a finding: of ω⁰ equal with 0 and 0, of another power turned with it, of an input different with 0 and it
+found-agreed : found (carriedBy 0) ≡ record { verdict = equal; first = 0; second = 0 }
+found-agreed = refl
 
-found-some : found (some 5) ≡ record { verdict = different; first = 0; second = 5 }
-found-some = refl
+found-turned : found (carriedBy 3) ≡ record { verdict = turned; first = 3; second = 0 }
+found-turned = refl
+
+found-unfit : found (unfitAt 5) ≡ record { verdict = different; first = 0; second = 5 }
+found-unfit = refl
 
 -- a refused call leaves the buffer as it was
 refused-leaves : leftBy (refuses (ofPair 14)) (pos 1 ∷ negsuc 2 ∷ []) ≡ pos 1 ∷ negsuc 2 ∷ []
 refused-leaves = refl
 
 -- an accepted one leaves 512 zeros, and what stood behind
-accepted-leaves : leftBy (says (found none)) (replicate 513 (pos 7)) ≡ replicate 512 (pos 0) ++ pos 7 ∷ []
+accepted-leaves : leftBy (says (found (carriedBy 0))) (replicate 513 (pos 7)) ≡ replicate 512 (pos 0) ++ pos 7 ∷ []
 accepted-leaves = refl

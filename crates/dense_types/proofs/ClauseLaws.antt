@@ -1,86 +1,107 @@
 -- The contract's clauses on the answer, from what the answer says: the theorems of dense_meaning, and for `agrees` those of the path sums.
 -- Assumes nothing.
-use mathlib.Core.Path.{_≡_, refl, sym, ap, _∙_}
-use mathlib.Core.Logic.{_⊎_, inl, inr}
-use Prim.Native.Nat.{ℕ}
+use mathlib.Core.Path.{_≡_, refl, sym, ap, subst, _∙_}
+use Prim.Native.Nat.{ℕ, zero, suc, _≤_, _<_}
 use native.Mathlib.Omega.{arith}
 use lib.Pow.{pow-pos}
-use mathlib.Core.Option.{Option, none, some, Option·none-ne-some}
 use mathlib.Core.List.{List}
 use Rattle.record_format.specs.Gate.{Gate, AllWithin}
 use Rattle.record_format.specs.Reading.{accepted, read, qubits, gates}
 use Rattle.record_format.proofs.Rows.{none-holds}
 use Rattle.record_format.proofs.Theorems.{passed, accepted-is-sound}
-use Rattle.comparison_meaning.specs.Verdict.{Verdict, Result, equal, different, undecided}
-use Rattle.comparison_meaning.specs.Demands.{SomePower, EqualIsRight, DifferentIsRight}
-use Rattle.comparison_meaning.proofs.Theorems.{equal-is-right, different-is-right}
+use Rattle.amplitude.specs.Circuit.{Carries}
+use Rattle.comparison_meaning.specs.Verdict.{Verdict, Result, equal, different, undecided, turned, number, agreement, compare}
+use Rattle.comparison_meaning.specs.Demands.{SomePower, DecidedBy, Decided}
+use Rattle.comparison_meaning.proofs.Theorems.{decided-by, one-power, equal-is-right, turned-is-right, different-is-right}
 use Rattle.comparison_types.specs.Call as pair
 use Rattle.comparison_types.proofs.Theorems.{first-accepted, second-accepted, same-qubits, pair-accepted-by-no-row}
 use Rattle.comparison_types.specs.Promises.{pairTable}
-use Rattle.dense_meaning.specs.Columns.{firstUnfit}
-use Rattle.dense_meaning.proofs.Theorems.{none-if-carried, shown-is-first, shown-is-unfit}
+use Rattle.dense_meaning.specs.Columns.{Finding, carriedBy, unfitAt, finding}
+use Rattle.dense_meaning.proofs.Theorems.{found-if-carried, shown-is-first, shown-is-unfit}
 use Rattle.dense_types.specs.Call.{Found, found, says, compareColumns, foundOf, saidOf, denseComparison}
-use Rattle.dense_types.specs.Clauses.{ExactlyDecided, ShownApart, ShownFirst, ShownIfDifferent, ForFound, Exact, Sound, First, Inputs, Agrees}
+use Rattle.dense_types.specs.Clauses.{ExactlyDecided, ShownApart, ShownFirst, ShownAsSaid, ForFound, Exact, Sound, First, Inputs, SameVerdict, Agrees}
 use Rattle.dense_types.specs.declared.Outcome.{Outcome}
 use Rattle.dense_types.specs.declared.Answer.{Answer}
 use Rattle.dense_types.specs.declared.Answer.the-variants.{Compared}
 use Rattle.dense_types.proofs.Theorems.{block-accepted-by-no-row}
 
--- equal and different are not the same
-equal≢different : (equal ≡ different) → ⊥
-equal≢different e = let z : _≡_ {A = ℕ} 0 1 = cc in absurd (omega arith)
+-- what a verdict says of a power of ω: equal that it is 0, turned that it is not; the others are said of none
+abbrev OfPower : Verdict → ℕ → Type 0
+OfPower equal j = j ≡ 0
+OfPower turned j = 1 ≤ j
+OfPower different j = ⊥
+OfPower undecided j = ⊥
+
+-- the verdict of a power says what is so of it
+of-power : (j : ℕ) {v : Verdict} → agreement j ≡ v → OfPower v j
+of-power zero e = rw (← e)
+of-power (suc j) e = rw (← e) (omega arith)
+
+-- how the comparison of columns ends: a power carries the pair, or an input is shown
+data Ends (n : ℕ) (first second : List Gate) : Finding → Type 0 where
+  carried : {j : ℕ} → j < 8 → Carries n j first second → Ends n first second (carriedBy j)
+  shown : {v : ℕ} → finding n first second ≡ unfitAt v → Ends n first second (unfitAt v)
 
 -- two lists within n qubits
 module _ (n : ℕ) (first second : List Gate) (l : AllWithin n first) (r : AllWithin n second) where
-  -- how the comparison of columns ends: some power carries the pair, or an input is shown
-  abbrev Ends : Found → Type 0
-  Ends f = ((f ≡ found none) × SomePower n first second) ⊎ ((v : ℕ) × (f ≡ found (some v)) × (firstUnfit n first second ≡ some v))
-
-  ends : Ends (compareColumns n first second)
-  ends = go (firstUnfit n first second) refl
+  -- so it does
+  ends : Ends n first second (finding n first second)
+  ends = go (finding n first second) refl
     where
-      go : (o : Option ℕ) → firstUnfit n first second ≡ o → Ends (found o)
-      go none e = inl (refl, none-if-carried n first second .0 e)
-      go (some v) e = inr (v, refl, e)
+      go : (x : Finding) → finding n first second ≡ x → Ends n first second x
+      go (carriedBy j) e = let (small, carries) = found-if-carried n first second l r j .0 e in carried small carries
+      go (unfitAt v) e = shown e
 
   -- no power carries the pair where an input is shown
-  not-carried : (v : ℕ) → firstUnfit n first second ≡ some v → SomePower n first second → ⊥
-  not-carried v e s = Option·none-ne-some v (sym (none-if-carried n first second .1 s) ∙ e)
+  not-carried : (v : ℕ) → finding n first second ≡ unfitAt v → SomePower n first second → ⊥
+  not-carried v e (j, small, carries) =
+      let z : _≡_ {A = ℕ} 0 1 = cc (found-if-carried n first second l r j .1 (small, carries)) in absurd (omega arith)
 
-  exact : (f : Found) → Ends f → ExactlyDecided n first second f
-  exact f (inl (e, s)) = ((λ h. s, λ h. ap (λ g. g .verdict) e), inl (ap (λ g. g .verdict) e))
-  exact f (inr (v, e, s)) =
-      let verdict : f .verdict ≡ different = ap (λ g. g .verdict) e in
-      ((λ h. absurd (equal≢different (sym h ∙ verdict)), λ h. absurd (not-carried v s h)), inr verdict)
+  -- the verdict says exactly what carries the pair
+  decided : {x : Finding} → Ends n first second x → DecidedBy n first second (found x .verdict) (found x .first)
+  decided (carried {j} small carries) =
+      decided-by n first second (one-power n first second l r) (agreement j) j
+      (λ h. rw (of-power j h) at carries) (λ h. ((of-power j h, small), carries)) (λ h. absurd (of-power j h)) (of-power j)
+  decided (shown {v} e) =
+      decided-by n first second (one-power n first second l r) different 0
+      (λ h. absurd (omega (arith, ap number h))) (λ h. absurd (omega (arith, ap number h))) (λ h. not-carried v e) (λ h. omega (arith, ap number h))
 
-  sound : (f : Found) → Ends f → ShownApart n first second f
-  sound f (inl (e, s)) h = absurd (equal≢different (sym (ap (λ g. g .verdict) e) ∙ h))
-  sound f (inr (v, e, s)) h = let shown = shown-is-unfit n first second l r v s in rw e (pow-pos n, shown .0, shown .1)
+  -- and what is shown with it is right
+  sound : {x : Finding} → Ends n first second x → ShownApart n first second (found x)
+  sound (carried {j} small carries) h = absurd (of-power j h)
+  sound (shown {v} e) h = let (inside, none-fits) = shown-is-unfit n first second l r v e in (pow-pos n, inside, none-fits)
 
-  first-shown : (f : Found) → Ends f → ShownFirst n first second f
-  first-shown f (inl (e, s)) h = absurd (equal≢different (sym (ap (λ g. g .verdict) e) ∙ h))
-  first-shown f (inr (v, e, s)) h = let shown = shown-is-first n first second v s in rw e (refl, shown .0, shown .1)
+  first-shown : {x : Finding} → Ends n first second x → ShownFirst n first second (found x)
+  first-shown (carried {j} small carries) h = absurd (of-power j h)
+  first-shown (shown {v} e) h = let (none-fits, before) = shown-is-first n first second v e in (refl, none-fits, before)
 
-  inputs : (f : Found) → Ends f → ShownIfDifferent n first second f
-  inputs f (inl (e, s)) h = rw e (refl, refl)
-  inputs f (inr (v, e, s)) h = absurd (h (ap (λ g. g .verdict) e))
+  inputs : {x : Finding} → Ends n first second x → ShownAsSaid n first second (found x)
+  inputs (carried {j} small carries) = (λ h. (of-power j h, refl), λ h. refl)
+  inputs (shown e) = (λ h. absurd (omega (arith, ap number h)), λ h. absurd (omega (arith, ap number h)))
 
-  -- a verdict of the path sums that is right and not undecided is that of the columns
-  agrees : (f : Found) → Ends f → (o : Result) → EqualIsRight n first second o → DifferentIsRight n first second o →
-      (o .verdict ≡ undecided → ⊥) → f .verdict ≡ o .verdict
-  agrees f e o right wrong decided = go (o .verdict) refl
+  -- a verdict of the path sums that is not undecided says exactly what carries the pair
+  path-sums-decide : (compare 0 n first second .verdict ≡ undecided → ⊥) → Decided n first second (compare 0 n first second)
+  path-sums-decide =
+      decided-by n first second (one-power n first second l r) _ _
+      (equal-is-right n first second l r) (turned-is-right n first second l r) apart
     where
-      apart : o .verdict ≡ different → SomePower n first second → ⊥
-      apart h (j, small, carries) = let shown = wrong h in shown .2 j (carries (o .first) (shown .0)) (carries (o .second) (shown .1))
+      apart : compare 0 n first second .verdict ≡ different → SomePower n first second → ⊥
+      apart h (j, small, carries) = let (a, b, none-fits) = different-is-right n first second l r h in none-fits j (carries _ a) (carries _ b)
 
-      other : (f .verdict ≡ equal) ⊎ (f .verdict ≡ different) → (f .verdict ≡ equal → ⊥) → f .verdict ≡ different
-      other (inl h) no-equal = absurd (no-equal h)
-      other (inr h) no-equal = h
+  -- two verdicts that say so are the same, and where that is turned with the same power
+  same-verdict :
+      (v w : Verdict) (a b : ℕ)
+      → DecidedBy n first second v a
+      → DecidedBy n first second w b
+      → (v ≡ w) × (w ≡ turned → a ≡ b)
+  same-verdict v equal a b d e = (d .equal-if .1 (e .equal-if .0 refl), λ h. absurd (omega (arith, ap number h)))
+  same-verdict v turned a b d e = let (is, same) = d .turned-if b .1 (e .turned-if b .0 (refl, refl)) in (is, λ h. same)
+  same-verdict v different a b d e = (d .different-if .1 (e .different-if .0 refl), λ h. absurd (omega (arith, ap number h)))
+  same-verdict v undecided a b d e = absurd (e .not-undecided refl)
 
-      go : (v : Verdict) → o .verdict ≡ v → f .verdict ≡ v
-      go equal h = exact f e .0 .1 (right h)
-      go different h = other (exact f e .1) (λ is. apart h (exact f e .0 .0 is))
-      go undecided h = absurd (decided h)
+  -- so that of the columns is that of the path sums
+  agrees : (compare 0 n first second .verdict ≡ undecided → ⊥) → SameVerdict (compareColumns n first second) (compare 0 n first second)
+  agrees decides = same-verdict _ _ _ _ (decided ends) (path-sums-decide decides)
 
 -- an accepted record is within its qubits, and n and its gates are its own
 own : (s : List ℕ) (n : ℕ) (gs : List Gate) → read s ≡ accepted n gs → (qubits s ≡ n) × (gates s ≡ gs) × AllWithin n gs
@@ -111,16 +132,16 @@ module _ (s t : List ℕ) (k : ℕ) (a : Answer) (steps : saidOf a ≡ denseComp
 
   -- the clauses
   pub is-exact : Exact s t a
-  is-exact = for-found (λ n first second f. ExactlyDecided n first second f) (λ n first second l r. exact n first second l r _ (ends n first second l r))
+  is-exact = for-found (λ n first second f. ExactlyDecided n first second f) (λ n first second l r. (decided n first second l r (ends n first second l r), one-power n first second l r))
 
   pub is-sound : Sound s t a
-  is-sound = for-found (λ n first second f. ShownApart n first second f) (λ n first second l r. sound n first second l r _ (ends n first second l r))
+  is-sound = for-found (λ n first second f. ShownApart n first second f) (λ n first second l r. sound n first second l r (ends n first second l r))
 
   pub is-first : First s t a
-  is-first = for-found (λ n first second f. ShownFirst n first second f) (λ n first second l r. first-shown n first second l r _ (ends n first second l r))
+  is-first = for-found (λ n first second f. ShownFirst n first second f) (λ n first second l r. first-shown n first second l r (ends n first second l r))
 
   pub has-inputs : Inputs s t a
-  has-inputs = for-found (λ n first second f. ShownIfDifferent n first second f) (λ n first second l r. inputs n first second l r _ (ends n first second l r))
+  has-inputs = for-found (λ n first second f. ShownAsSaid n first second f) (λ n first second l r. inputs n first second l r (ends n first second l r))
 
   pub does-agree : Agrees s t a
   does-agree o w c r is said decided =
@@ -128,8 +149,4 @@ module _ (s t : List ℕ) (k : ℕ) (a : Answer) (steps : saidOf a ≡ denseComp
       let l = own s (qubits s) (gates s) (accepts .0) .2 in
       let m = own t (qubits s) (gates t) (accepts .1) .2 in
       let result = pair-accepted-by-no-row s t w c r .0 said .1 in
-      ap (λ f. f .verdict) (outcome o is)
-      ∙ agrees (qubits s) (gates s) (gates t) l m _ (ends (qubits s) (gates s) (gates t) l m) r
-      (rw result (equal-is-right (qubits s) (gates s) (gates t) l m))
-      (rw result (different-is-right (qubits s) (gates s) (gates t) l m))
-      decided
+      subst (λ f. SameVerdict f r) (sym (outcome o is)) (rw result (agrees (qubits s) (gates s) (gates t) l m (rw result at decided)))
