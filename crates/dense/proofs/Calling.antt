@@ -12,7 +12,7 @@ use Rattle.comparison_types.specs.Call.{pairFault, faultOf}
 use Rattle.comparison_types.specs.Inner.{AcceptedWith}
 use Rattle.comparison_types.specs.declared.Refusal.{Refusal}
 use Rattle.comparison_types.proofs.PairLaws.{part-of, gates-of}
-use Rattle.dense_meaning.specs.Columns.{firstUnfit}
+use Rattle.dense_meaning.specs.Columns.{finding}
 use Rattle.dense_types.specs.Call.{found, says, refuses, blockRows, denseComparison}
 use Rattle.dense_types.specs.Clauses.{Exact, Sound, First, Inputs, Agrees}
 use Rattle.dense_types.specs.Call as call
@@ -49,10 +49,10 @@ module _ {s t : List ℕ} {k n g h p q : ℕ} (pass : Passes s t k n g h p q) wh
   -- what their columns show is said
   pub shown-said : {first second : List ℕ} → first ≡ part g s → second ≡ part h t → {r : BlockCheck} →
       foundFault r ≡ pairFault (read s) (read t) (blockRows s t k) → r ≡ Good n g h p q →
-      says (found (firstUnfit n (gatesIn first) (gatesIn second))) ≡ denseComparison s t k
+      says (found (finding n (gatesIn first) (gatesIn second))) ≡ denseComparison s t k
   shown-said is is′ fault good =
       rw (is, is′, gates-of (pass .list), gates-of (pass .other), ← fault, good)
-      (ap (λ m. says (found (firstUnfit m (pass .list .gates) (pass .other .gates)))) (sym own-n) ∙ rw (own, own′))
+      (ap (λ m. says (found (finding m (pass .list .gates) (pass .other .gates)))) (sym own-n) ∙ rw (own, own′))
     where
       own-n : qubits s ≡ n
       own-n = passed s n (pass .list .gates) (pass .list .reads) .1

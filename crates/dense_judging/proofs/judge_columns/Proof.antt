@@ -1,4 +1,4 @@
--- `dense_judging::judge_columns` meets its contract: the power of column 0 fits every column before v.
+-- `dense_judging::judge_columns` meets its contract: the power of column 0 fits every column before v, and at the end it is what is found.
 -- Assumes nothing.
 use mathlib.Core.Path.{_≡_, refl, sym, _∙_}
 use mathlib.Core.List.{List}
@@ -134,7 +134,7 @@ returns-2 c =
     let turn = in-turn column in
     let s = start (to-zero (to-power turn)) in
     let block = s .pre .0 in
-    sym (unfit-at (s .args .n) (gates s) (others s) (turn .loop .v) _ (block .within-first) (block .within-second) (omega arith)
+    sym (unfit-at (s .args .n) (gates s) (others s) (block .within-first) (block .within-second) (turn .loop .v) _ (omega arith)
     (omega (arith, turn .before .power .ensures)) (found (turn .before .before)) (turn .loop .inv .3)
     (failed-fits (s .args .n) (gates s) (others s) (turn .loop .v) (column .run-both2 .last .0) (column .run-both2 .ensures) _
     (sym (c .before .fits2 .ensures) ∙ not-true _ (c .if2 .taken))))
@@ -167,7 +167,8 @@ returns-3 : tie.Need-returns-3 Inv-loop μ-loop
 returns-3 c =
     let turn = c .before in
     let s = start (to-zero (to-power turn)) in
-    sym (fit-everywhere (s .args .n) (gates s) (others s) _ (found (turn .before .before))
+    let block = s .pre .0 in
+    sym (fit-everywhere (s .args .n) (gates s) (others s) (block .within-first) (block .within-second) _ (found (turn .before .before))
     (λ v b. turn .loop .inv .3 v (omega (arith, turn .before .power .ensures))))
 
 pub judge-columns-spec : {M : Type 1} → statement M
