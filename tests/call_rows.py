@@ -194,7 +194,7 @@ def dense(numbers, first, second, events):
     lent, seed = numbers_of(numbers, [MOST_NUMBERS + 1, ANY])
     a, b = both_of(first, second)
     try:
-        result = ref.compare_small(*ref.read_small(a, b, lent), events)
+        result = ref.compare_small(*ref.read_small(a, b, lent))
     except ref.Refused as refusal:
         return refused(refusal) + lent_numbers(False, seed)
     return " ".join(map(str, result)) + lent_numbers(True, seed)

@@ -4,17 +4,21 @@
     python3 tests/make_rows.py [--check]
 
 The files go to stdin and stdout in the crates of the programs; the gate runs each on the one and compares with the other. Every answer
-of rows.txt is held to the independent implementation beside this file, and the engine has no part in it. With --check nothing is written: the files
-must be those that would be.
+of rows.txt is held to the independent implementation beside this file, and the engine has no part in it. A comparison's verdict is held to exact
+columns besides: up to 6 qubits equal and turned to all of them, which exactly the power told must carry. With --check nothing is written: the
+files must be those that would be.
 """
 import os
 import re
 import sys
 
 import call_rows
+import reference as ref
 
 HERE = os.path.dirname(os.path.abspath(__file__))
 CRATES = os.path.join(HERE, "..", "crates")
+# all columns are tried up to so many qubits, some on more where both lists have so many H gates at most
+ALL_COLUMNS, FEW_HADAMARDS = 6, 10
 
 
 def repeated(text):
@@ -44,6 +48,21 @@ def expected(number, row, answer):
     return line
 
 
+def held_to_columns(number, row, answer):
+    """Whether an answer is a verdict that was held to columns, which must bear it out. On more than 6 qubits equal and turned are held to those
+    of input 0, of each qubit alone and of all of them, and lists with many H gates to none."""
+    verdict = re.match(r"(equal|turned|different) (\d+) (\d+)", answer)
+    if not verdict:
+        return False
+    n, gates, others = ref.read_lists(*call_rows.both_of(*row.split(";")[3:]))
+    some = [0, *(1 << q for q in range(n)), (1 << n) - 1] if n > ALL_COLUMNS else None
+    if some and ref.h_gates(gates + others) > FEW_HADAMARDS:
+        return False
+    if not ref.Columns(n, gates, others).bear_out(verdict[1], int(verdict[2]), int(verdict[3]), some):
+        sys.exit(f"rows.txt:{number}: written {answer!r}, but the columns do not bear it out")
+    return True
+
+
 def write(program, name, content):
     """A file of a program, line by line; with --check it must be that already."""
     text = "".join(line + "\n" for line in content)
@@ -58,13 +77,16 @@ def write(program, name, content):
 def main():
     if sys.argv[1:] not in ([], ["--check"]):
         sys.exit("usage: make_rows.py [--check]")
+    written = list(read_rows(os.path.join(HERE, "rows.txt")))
     rows = {program: [] for program in call_rows.PROGRAMS}
-    for number, row, answer in read_rows(os.path.join(HERE, "rows.txt")):
+    for number, row, answer in written:
         rows[call_rows.program_of(row)].append((row, expected(number, row, answer)))
+    held = sum(held_to_columns(*each) for each in written)
     for program, done in rows.items():
         write(program, "stdin", [row for row, _ in done])
         write(program, "stdout", [line for _, line in done] + [f"rows {len(done)}"])
-    print(", ".join(f"{len(done)} rows of {program}" for program, done in rows.items()))
+    counts = ", ".join(f"{len(done)} rows of {program}" for program, done in rows.items())
+    print(f"{counts}; {held} verdicts held to columns")
 
 
 if __name__ == "__main__":

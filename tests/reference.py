@@ -1,5 +1,5 @@
-"""An independent implementation of document 01 and of item 2 of 02, for tests alone: records and reports, the steps, the pick, exact dense
-columns, and the comparison of small blocks by them.
+"""An independent implementation of document 01 as items 1 to 4 of 02 change it, for tests alone: records and reports, the steps, the pick,
+exact dense columns, and the comparison of small blocks by them.
 
 It shares no code with the engine and is written for plainness: terms are a dictionary from set to coefficient, and columns are
 dictionaries from output to four whole numbers. A small block's columns are run all at once: they are the digits of large numbers.
@@ -9,7 +9,8 @@ from itertools import combinations
 
 X, Y, Z, S, SI, T, TI, H, CX, CZ, SWAP = range(11)
 INVERSE = {S: SI, SI: S, T: TI, TI: T}
-VERDICTS = ("equal", "different", "undecided")
+# by number, as a report has them
+VERDICTS = ("equal", "different", "undecided", "turned")
 PLACES = 3136
 # of a small block
 NUMBERS, MOST_QUBITS, MOST_HADAMARDS = 512, 6, 60
@@ -95,7 +96,7 @@ def inverse(data, buffer):
 
 
 def write_report(buffer, verdict, first, second, pins, sums, turns, joins, left):
-    if verdict > 2:
+    if verdict >= len(VERDICTS):
         raise Refused(5)
     inputs = first.to_bytes(2, "little") + second.to_bytes(2, "little")
     return written(buffer, bytes([0x51, 0x56, verdict]) + inputs + bytes([pins, sums, turns, joins, left]))
@@ -107,7 +108,7 @@ def read_report(data):
         raise Refused(1)
     if data[:2] != b"QV":
         raise Refused(2)
-    if data[2] > 2:
+    if data[2] >= len(VERDICTS):
         raise Refused(5)
     return (data[2], data[3] + 256 * data[4], data[5] + 256 * data[6], *data[7:12])
 
@@ -233,6 +234,11 @@ def built(n, first, second):
     return s
 
 
+def agreed(power):
+    """The verdict and its two numbers where this power of ω carries the first list to the second."""
+    return ("turned", power, 0) if power else ("equal", 0, 0)
+
+
 def compare(n, first, second, events=None):
     """The eight fields of the result. What happened on the way is added to events, a list of words."""
     s = built(n, first, second)
@@ -290,9 +296,12 @@ def compare(n, first, second, events=None):
     differing = (x for x in inputs_by_weight(n) if s.phase(x) != s.phase(0))
     shown = next(differing, None)
     if shown is None:
+        verdict, power, _ = agreed(-s.constant % 8)
         if any(c % 2 for c in s.terms.values()):
-            events.append("odd coefficients left: equal")
-        return result("equal", 0, 0)
+            events.append(f"odd coefficients left: {verdict}")
+        if power:
+            events.append(f"turned {power}")
+        return result(verdict, power, 0)
     weight = len(qubits_of(shown))
     if weight == 3:
         events += sorted({f"difference of weight 3, a later one with another {another(shown, x)}" for x in differing})
@@ -407,7 +416,23 @@ def times_root_two(z, k):
 
 
 def plus(u, v):
-    return tuple(p + q for p, q in zip(u, v))
+    return (u[0] + v[0], u[1] + v[1], u[2] + v[2], u[3] + v[3])
+
+
+def moved(w, kind, a, b):
+    """Where a gate that is no H takes output w, and the power of ω that it puts there."""
+    one, bit = w >> a & 1, 1 << a
+    if kind == X:
+        return w ^ bit, 0
+    if kind == Y:
+        return w ^ bit, 6 if one else 2
+    if kind == CX:
+        return w ^ one << b, 0
+    if kind == CZ:
+        return w, 4 if one and w >> b & 1 else 0
+    if kind == SWAP:
+        return w ^ bit ^ 1 << b if one != w >> b & 1 else w, 0
+    return w, {Z: 4, S: 2, SI: 6, T: 1, TI: 7}[kind] if one else 0
 
 
 def column(gates, v):
@@ -415,28 +440,13 @@ def column(gates, v):
     state = {v: (1, 0, 0, 0)}
     for kind, a, b in gates:
         after = {}
-
-        def add(w, z):
-            after[w] = plus(after.get(w, (0, 0, 0, 0)), z)
-
         for w, z in state.items():
-            one = w >> a & 1
-            if kind == X:
-                add(w ^ 1 << a, z)
-            elif kind == Y:
-                add(w ^ 1 << a, times_omega(z, 6 if one else 2))
-            elif kind == H:
-                add(w & ~(1 << a), z)
-                add(w | 1 << a, times_omega(z, 4) if one else z)
-            elif kind == CX:
-                add(w ^ (one << b), z)
-            elif kind == CZ:
-                add(w, times_omega(z, 4) if one and w >> b & 1 else z)
-            elif kind == SWAP:
-                other = w >> b & 1
-                add(w & ~(1 << a) & ~(1 << b) | other << a | one << b, z)
-            else:
-                add(w, times_omega(z, {Z: 4, S: 2, SI: 6, T: 1, TI: 7}[kind]) if one else z)
+            if kind != H:
+                to, power = moved(w, kind, a, b)
+                after[to] = times_omega(z, power)
+                continue
+            for to, y in ((w & ~(1 << a), z), (w | 1 << a, times_omega(z, 4) if w >> a & 1 else z)):
+                after[to] = plus(after[to], y) if to in after else y
         state = {w: z for w, z in after.items() if any(z)}
     return state
 
@@ -444,8 +454,8 @@ def column(gates, v):
 class Columns:
     """Which powers of ω carry the first list's columns to the second's."""
 
-    def __init__(self, first, second):
-        self.first, self.second = first, second
+    def __init__(self, n, first, second):
+        self.n, self.first, self.second = n, first, second
         self.h1, self.h2 = h_gates(first), h_gates(second)
 
     def fitting(self, v):
@@ -454,14 +464,21 @@ class Columns:
         right = {w: times_root_two(z, self.h1) for w, z in column(self.second, v).items()}
         return {j for j in range(8) if {w: times_omega(z, j) for w, z in left.items()} == right}
 
-    def carry(self, count):
-        """The powers that carry each of the first so many columns."""
+    def carry(self, inputs):
+        """The powers that carry each of these inputs' columns."""
         powers = set(range(8))
-        for v in range(count):
+        for v in inputs:
             powers &= self.fitting(v)
             if not powers:
                 break
         return powers
+
+    def bear_out(self, verdict, first, second, inputs=None):
+        """Do these inputs' columns, all unless given, say so? Exactly one power carries them, 0 where equal and the one told where turned;
+        a difference shows two that no power fits."""
+        if verdict in ("equal", "turned"):
+            return (verdict, first, second) == agreed(first) and self.carry(inputs or range(1 << self.n)) == {first}
+        return verdict == "undecided" or max(first, second) >> self.n == 0 and not self.carry((first, second))
 
 
 # Small blocks. An output has its amplitudes from every input at once: four large numbers whose digits, of 64 bits each and of either sign,
@@ -505,12 +522,10 @@ def first_misfit(j, left, right):
     return ((wrong & -wrong).bit_length() - 1) // DIGIT if wrong else None
 
 
-def compare_small(n, first, second, events=None):
-    """The verdict and the two inputs, by trying each of the eight powers on all columns. The power that carries is added to events."""
+def compare_small(n, first, second):
+    """The verdict and its two numbers, by trying each of the eight powers on all columns."""
     left, right = matrix(n, first, h_gates(second)), matrix(n, second, h_gates(first))
     misfits = [first_misfit(j, left, right) for j in range(8)]
     if None not in misfits:
         return "different", 0, max(misfits)
-    if events is not None:
-        events += [f"power {j}" for j in range(8) if misfits[j] is None]
-    return "equal", 0, 0
+    return agreed(misfits.index(None))
