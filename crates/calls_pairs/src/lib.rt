@@ -21,6 +21,7 @@ pub fn verdict(number: u8) {
         0 => print::text(b"equal"),
         1 => print::text(b"different"),
         2 => print::text(b"undecided"),
+        3 => print::text(b"turned"),
         _ => print::text(b"no verdict"),
     }
 }
