@@ -5,12 +5,13 @@ every public call with rows of text, and the programs compare and compare_small,
     rt check record_calls pair_calls compare compare_small && python3 tests/against_reference.py [TIMES]
 
 Fixed cases at the limits come first, then random families (random_pairs.py) that reach every rule; TIMES multiplies the random cases. Up to
-5 qubits, equal and different are also held to exact dense columns. Small blocks go through both comparisons, and where the path
-sum decides, the two must print the same verdict. Every class of cases is counted. The run fails where a line differs, two verdicts do, a class
-never came up, or one came up that classes.py does not list.
+6 qubits, equal, turned by its power and different are also held to exact dense columns. Small blocks go through both comparisons, by rows and by
+programs, and where the path sum decides, the two must print the same verdict and, turned, the same power. Every class of cases is counted. The run
+fails where a line differs, two verdicts do, a class never came up, or one came up that classes.py does not list.
 """
 import os
 import random
+import re
 import subprocess
 import sys
 import tempfile
@@ -36,6 +37,11 @@ def hold(got, want):
     """The independent implementation to what is written here."""
     if got != want:
         fail(f"the independent implementation says {got!r} where {want!r} is written")
+
+
+def named(fields):
+    """A verdict as the classes name it: turned with its power."""
+    return " ".join(fields[:2]) if fields[0] == "turned" else fields[0]
 
 
 class Check:
@@ -112,9 +118,8 @@ class Check:
             fail(f"{name} on\n{data[:4000].hex()}\nprinted {done.stdout!r}, wanted {line!r}")
         if want is not None:
             hold(line, want)
-        words = line.split()
-        self.see(f"program {name}: {line if words[0] == 'refused' else words[0]}")
-        return line
+        self.see(f"program {name}: {line if line.startswith('refused') else named(line.split())}")
+        return line.split()
 
 
 def program(name):
@@ -189,9 +194,8 @@ def compare_row(check, numbers, first, second, call="compare"):
         return refusal.number
     n, gates, others = ref.read_pair(a, b, *numbers[:2])
     if call == "pick":
-        why = choice(gates, others, answer.split()[0], events)
-        check.see(f"pick: {why}")
-        if "different" not in why and "undecided" not in why:
+        check.see(f"pick: {choice(gates, others, answer.split()[0], events)}")
+        if ending(events) == "equal":
             see_kinds(check, gates, others)
         return None
     fields = answer.split(",")[0].split()
@@ -204,17 +208,26 @@ def compare_row(check, numbers, first, second, call="compare"):
     return fields
 
 
+def ending(events):
+    """The verdict that a comparison came to, by its last event."""
+    last = events[-1] if events else ""
+    if last == "none ready":
+        return "undecided"
+    if "blocked" in last or "differ" in last:
+        return "different"
+    return last if last.startswith("turned") else "equal"
+
+
 def choice(gates, others, which, events):
     """Why the pick chose what it did."""
-    if events[-1:] == ["none ready"]:
-        return f"{which}, undecided"
-    if any(word in events[-1] for word in ("blocked", "differ")) if events else False:
-        return f"{which}, different"
-    if ref.t_gates(gates) != ref.t_gates(others):
-        return f"{which}, fewer T gates"
-    if len(gates) != len(others):
-        return f"{which}, fewer gates"
-    return f"{which}, a tie"
+    verdict, fewer_t, fewer = ending(events), ref.t_gates(gates) - ref.t_gates(others), len(gates) - len(others)
+    if verdict.startswith("turned"):
+        if fewer_t > 0:
+            return f"{which}, {verdict}, though the second has fewer T gates"
+        return f"{which}, turned" + (", though the second has fewer gates" if fewer_t == 0 < fewer else "")
+    if verdict != "equal":
+        return f"{which}, {verdict}"
+    return f"{which}, {'fewer T gates' if fewer_t else 'fewer gates' if fewer else 'a tie'}"
 
 
 def see_kinds(check, gates, others):
@@ -232,7 +245,8 @@ def see_kinds(check, gates, others):
 
 def see_events(check, n, gates, others, fields, events):
     """The classes of an accepted comparison."""
-    names = [fields[0], *set(events)]
+    verdict = named(fields)
+    names = {verdict, *events}
     h = pairs.h_gates(gates + others)
     no_t = ref.t_gates(gates) + ref.t_gates(others) == 0
     shapes = {
@@ -242,7 +256,9 @@ def see_events(check, n, gates, others, fields, events):
         "512 gates on 1 qubit": n == 1 and len(gates) == 512,
         "512 gates on 16 qubits": n == 16 and len(gates) == 512,
         "512 gates in both lists": len(gates) == len(others) == 512,
-        f"no T gate: {fields[0]}": no_t,
+        f"no T gate: {verdict}": no_t,
+        "turned on 16 qubits": n == 16 and fields[0] == "turned",
+        "turned, 512 gates in both lists": len(gates) == len(others) == 512 and fields[0] == "turned",
         "difference of weight 3 on 16 qubits": n == 16 and "difference of weight 3" in events,
         "difference of weight 3 after a pin": fields[3] != "0" and "difference of weight 3" in events,
     }
@@ -254,20 +270,15 @@ def see_events(check, n, gates, others, fields, events):
 
 
 def check_columns(check, n, first, second, fields):
-    """Equal and different against the amplitudes."""
-    columns = ref.Columns(first, second)
-    if fields[0] == "equal" and not columns.carry(1 << n):
-        fail(f"equal, but no power carries {list_text(n, first)} to {list_text(n, second)}")
-    if fields[0] == "different":
-        a, b = int(fields[1]), int(fields[2])
-        if a >> n or b >> n or columns.fitting(a) & columns.fitting(b):
-            fail(f"different at {a} and {b}, but a power fits both columns: {list_text(n, first)} and {list_text(n, second)}")
+    """A verdict against the amplitudes."""
+    if not ref.Columns(n, first, second).bear_out(fields[0], int(fields[1]), int(fields[2])):
+        fail(f"{' '.join(fields)} is not what the columns say: {list_text(n, first)} and {list_text(n, second)}")
     if fields[0] != "undecided":
-        check.see(f"compare: dense columns: {fields[0]}")
+        check.see(f"compare: dense columns: {named(fields)}")
 
 
 def is_small(n, first, second):
-    return n <= 5 and len(first) + len(second) <= 60 and pairs.h_gates(first + second) <= 14
+    return n <= 6 and len(first) + len(second) <= 60 and pairs.h_gates(first + second) <= 24
 
 
 def workspace_numbers(rng):
@@ -310,7 +321,7 @@ def random_pair_row(check, rng, call, families=pairs.FAMILIES):
 
 def dense_row(check, numbers, first, second):
     """A row of the dense comparison. Gives the verdict and its inputs, or the number of the refusal."""
-    answer, events = check.row(row("", "dense", numbers, first, second)[1:])
+    answer, _ = check.row(row("", "dense", numbers, first, second)[1:])
     a, b = lent_bytes(first, second)
     refusal = refusal_of(ref.read_small, a, b, numbers[0])
     before = {0: "zeros", 1: "the lowest number", 2: "the highest number"}.get(numbers[1], "rubbish")
@@ -321,7 +332,7 @@ def dense_row(check, numbers, first, second):
         return refusal.number
     n, gates, others = ref.read_small(a, b, numbers[0])
     fields = answer.split(",")[0].split()
-    see_small(check, n, gates, others, fields, events)
+    see_small(check, n, gates, others, fields)
     check.see(f"dense: {'512' if numbers[0] == 512 else 'more'} numbers")
     if second == "=":
         check.see("dense: one slice given twice")
@@ -330,16 +341,17 @@ def dense_row(check, numbers, first, second):
     return fields
 
 
-def see_small(check, n, gates, others, fields, events):
+def see_small(check, n, gates, others, fields):
     """The classes of an accepted small block."""
-    v, h = int(fields[2]), ref.h_gates(gates + others)
+    verdict, v, h = named(fields), int(fields[2]), ref.h_gates(gates + others)
     shapes = {
-        f"no T gate: {fields[0]}": ref.t_gates(gates) + ref.t_gates(others) == 0,
+        f"no T gate: {verdict}": ref.t_gates(gates) + ref.t_gates(others) == 0,
         "60 H gates": h == 60,
         "64 variables": n + h == 64,
         "512 gates in both lists": len(gates) == len(others) == 512,
+        "turned, 512 gates in both lists": len(gates) == len(others) == 512 and fields[0] == "turned",
     }
-    names = [fields[0], *events, f"{n} qubits", *(name for name, yes in shapes.items() if yes)]
+    names = [verdict, f"{n} qubits", *(name for name, yes in shapes.items() if yes)]
     if fields[0] == "different":
         place = "the last" if v == (1 << n) - 1 else str(v) if v < 2 else "in the middle"
         names.append(f"first differing input {place}")
@@ -349,12 +361,14 @@ def see_small(check, n, gates, others, fields, events):
 
 
 def check_small_columns(check, n, gates, others, fields):
-    """The verdict and the input of a small block against its columns, one by one."""
-    columns, v = ref.Columns(gates, others), int(fields[2])
-    good = columns.carry(1 << n) if fields[0] == "equal" else columns.carry(v) and not columns.carry(v + 1)
+    """The verdict of a small block, the power where turned and the input where different, against its columns, one by one."""
+    columns, v = ref.Columns(n, gates, others), int(fields[2])
+    good = fields[0] != "undecided" and columns.bear_out(fields[0], int(fields[1]), v)
+    if fields[0] == "different":
+        good = good and columns.carry(range(v)) and not columns.carry(range(v + 1))
     if not good:
         fail(f"{' '.join(fields)} is not what the columns say: {list_text(n, gates)} and {list_text(n, others)}")
-    check.see(f"dense: column by column: {fields[0]}")
+    check.see(f"dense: column by column: {named(fields)}")
 
 
 def number_numbers(rng):
@@ -400,27 +414,40 @@ def fixed_small_rows(check):
         hold(dense_row(check, (520, seed), list_text(7, []), "="), 14)
 
 
-def agree(check):
-    """What both comparisons printed for each small block; fails where the path sum decides and the verdicts differ."""
+def agree(check, call, here, there, what):
+    """What the dense comparison and the path sum found of one small block; fails where the path sum decides and the verdicts, or the powers, differ."""
+    if there[0] == "undecided":
+        check.see(f"{call}: undecided there, {here[0]} here")
+    elif named(here) != named(there) or here[0] != "different" and here[:3] != there[:3]:
+        fail(f"{' '.join(here)} by the dense comparison, {' '.join(there)} by the path sum: {what}")
+    else:
+        check.see(f"{call}: both {named(here)}")
+        if here[:3] != there[:3]:
+            check.see(f"{call}: both different, other inputs")
+
+
+def agree_in_rows(check):
+    """What both comparisons printed for each small block."""
     for rows in check.both:
         here, there = (check.printed[str(i)].split(": ")[1].split(",")[0].split() for i in rows)
-        if there[0] == "undecided":
-            check.see(f"dense: undecided there, {here[0]} here")
-        elif here[0] != there[0]:
-            fail(f"{' '.join(here)} by the dense comparison, {' '.join(there)} by the path sum: row\n{check.rows[rows[0]]}")
-        else:
-            check.see(f"dense: both {here[0]}")
-            if here[:3] != there[:3]:
-                check.see("dense: both different, other inputs")
+        agree(check, "dense", here, there, f"row\n{check.rows[rows[0]]}")
+
+
+def run_both(check, data):
+    """The program compare_small on these bytes and, if they are accepted, the program compare."""
+    here = check.run_program(data, name="compare_small")
+    if here[0] != "refused":
+        agree(check, "program compare_small", here, check.run_program(data), data.hex())
 
 
 def both_line(check):
     """How the two comparisons stand to each other, in one line."""
     seen = {name: check.seen[f"dense: {name}"] for name in BOTH}
+    decided = sum(count for name, count in seen.items() if re.fullmatch(r"both (equal|different|turned \d)", name))
     return (
-        f"{len(check.both)} small blocks by both comparisons: {seen['both equal'] + seen['both different']} decided by both, the verdicts agree"
-        f" ({seen['both different, other inputs']} with other inputs); undecided by the path sum, {seen['undecided there, equal here']} equal and"
-        f" {seen['undecided there, different here']} different"
+        f"{len(check.both)} small blocks by both comparisons: {decided} decided by both, the verdicts and the powers agree"
+        f" ({seen['both different, other inputs']} with other inputs); undecided by the path sum, {seen['undecided there, equal here']} equal,"
+        f" {seen['undecided there, turned here']} turned and {seen['undecided there, different here']} different"
     )
 
 
@@ -473,20 +500,28 @@ def builder_rows(check, rng):
     check.simple("check_gate", numbers=(n, rng.choice((0, 1, 255, 256, 511, rng.randrange(10**18))), *gate))
 
 
+def see_last_verdict(check, call, verdict, words):
+    """The last verdict that there is, taken, and the next one, refused."""
+    if verdict in (3, 4) and (words[0] != "refused" or words[1] == "5"):
+        check.see(f"{call}: verdict {verdict}, {words[0]}")
+
+
 def report_rows(check, rng):
     """A report written, read back, and read with a fault."""
-    fields = [rng.choice((0, 1, 2, 2, 3, 255)), *(rng.choice((0, 1, rng.randrange(65536))) for _ in range(2))]
+    fields = [rng.choice((0, 1, 2, 3, 3, 4, 255)), *(rng.choice((0, 1, rng.randrange(65536))) for _ in range(2))]
     fields += [rng.randrange(256) for _ in range(5)]
     room = rng.choice((0, 11, 12, 12, 13))
     words = check.simple("write_report", numbers=(room, *fields), second=rng.randbytes(room + rng.choice((0, 2))))
+    see_last_verdict(check, "write_report", fields[0], words)
     data = buffer_of(words)
     read = check.simple("read_report", first=data)
     if words[0] == "length" and read[1:] != [str(x) for x in fields]:
         fail(f"report of {fields} reads back as {read}")
     data = bytearray(data)
     if data:
-        data[rng.randrange(min(3, len(data)))] = rng.choice((0, 2, 3, 0x51, 0x56, 0x43))
-        check.simple("read_report", first=bytes(data[: rng.choice((11, 12, 14))]))
+        data[rng.randrange(min(3, len(data)))] = rng.choice((0, 2, 3, 4, 0x51, 0x56, 0x43))
+        words = check.simple("read_report", first=bytes(data[: rng.choice((11, 12, 14))]))
+        see_last_verdict(check, "read_report", (data + bytes(3))[2], words)
 
 
 def bad_rows(check, rng):
@@ -529,7 +564,7 @@ def long_inputs(check, data, line, name="compare"):
 def fixed_inputs(check):
     """The program compare at its limits."""
     example = bytes.fromhex("514301060003 00FF0700FF0300FF0700FF0300FF0700FF5143010000")
-    check.run_program(example, "equal 0 0 1 1 1 0 0")
+    check.run_program(example, "turned 7 0 1 1 1 0 0")
     check.run_program(b"", "refused 1")
     for n, first, second, line in full_records():
         long_inputs(check, ref.record(n, first) + ref.record(n, second), line)
@@ -538,6 +573,19 @@ def fixed_inputs(check):
         check.run_program(data + ref.record(n, []), line)
     check.run_program(ref.record(17, []) + ref.record(17, []), "refused 3")
     check.run_program(ref.record(1, pairs.one(ref.X, *[0] * 513)) + ref.record(1, []), "refused 4")
+
+
+def fixed_turns(check):
+    """X T X T up to eight times against nothing, and Y against what it is but for a power of ω, both ways round through both programs."""
+    y, zx, xz = ([ref.Y], [ref.Z, ref.X], [ref.X, ref.Z])
+    cases = [(pairs.BY_X_AND_T * times, [], 8 - times) for times in range(1, 9)]
+    cases += [(zx, y, 2), (xz, y, 6), (zx, xz, 4), (y * 2, [], 0), (y, y, 0)]
+    for first, second, power in cases:
+        for one, other, j in ((first, second, power), (second, first, -power % 8)):
+            data = ref.record(1, pairs.on(0, one)) + ref.record(1, pairs.on(0, other))
+            line = f"turned {j} 0" if j else "equal 0 0"
+            check.run_program(data, f"{line} 0 0 0 0 0")
+            check.run_program(data, line, "compare_small")
 
 
 def fixed_small_inputs(check):
@@ -641,6 +689,7 @@ def main():
     rng = random.Random(SEED)
     check = Check()
     fixed_inputs(check)
+    fixed_turns(check)
     fixed_small_inputs(check)
     fixed_rows(check)
     fixed_refusals(check)
@@ -648,7 +697,7 @@ def main():
     for _ in range(4000 * times):
         random_pair_row(check, rng, "compare")
     for i in range(2000 * times):
-        random_pair_row(check, rng, "pick", (pairs.worth,) if i % 3 == 0 else pairs.FAMILIES)
+        random_pair_row(check, rng, "pick", (pairs.worth, pairs.turned) if i % 2 else pairs.FAMILIES)
     for _ in range(600 * times):
         record_rows(check, rng)
         builder_rows(check, rng)
@@ -657,7 +706,7 @@ def main():
     for i in range(3500 * times):
         random_small_row(check, rng, rng.choice(pairs.SMALL[:-1]) if i % 100 else pairs.small_long)
     check.run_rows()
-    agree(check)
+    agree_in_rows(check)
     inputs = 2000 * times
     for i in range(inputs):
         n, first, second = rng.choice(pairs.FAMILIES)(rng)
@@ -665,9 +714,9 @@ def main():
         check.run_program(damaged_input(rng, data) if i % 3 == 0 else data)
     blocks = 600 * times
     for i in range(blocks):
-        n, first, second = rng.choice(pairs.SMALL[:-1] if i % 8 else pairs.FAMILIES)(rng)
+        n, first, second = rng.choice((pairs.FAMILIES, [pairs.small_turned], *[pairs.SMALL[:-1]] * 6)[i % 8])(rng)
         data = ref.record(n, first) + ref.record(n, second)
-        check.run_program(damaged_input(rng, data) if i % 3 == 0 else data, name="compare_small")
+        run_both(check, damaged_input(rng, data) if i % 3 == 0 else data)
     show_classes(check)
     print(both_line(check))
     print(f"{len(check.rows)} rows and {inputs + blocks} random inputs: all agree with the independent implementation")

@@ -2,6 +2,8 @@
 import reference as ref
 from call_rows import PROGRAMS
 
+# a verdict that shows the power of ω, by each that there is
+TURNED = tuple(f"turned {j}" for j in range(1, 8))
 # several inputs of weight 3 differ: what a later one has beside the one that is shown
 LATER = ("highest qubit", "highest qubit, the middle one lower", "middle qubit", "middle qubit, the lowest one lower", "lowest qubit")
 EVENTS = (
@@ -21,6 +23,7 @@ EVENTS = (
     "difference of weight 3",
     *(f"difference of weight 3, a later one with another {qubit}" for qubit in LATER),
     "odd coefficients left: equal",
+    "odd coefficients left: turned",
     "none ready",
 )
 SHAPES = (
@@ -31,8 +34,9 @@ SHAPES = (
     "512 gates on 1 qubit",
     "512 gates on 16 qubits",
     "512 gates in both lists",
-    "no T gate: equal",
-    "no T gate: different",
+    *(f"no T gate: {verdict}" for verdict in ("equal", "different", *TURNED)),
+    "turned on 16 qubits",
+    "turned, 512 gates in both lists",
     "difference of weight 3 on 16 qubits",
     "difference of weight 3 after a pin",
     "one slice given twice",
@@ -40,11 +44,10 @@ SHAPES = (
     "workspaces of 3136 places",
     "workspaces of more places",
     "workspaces of 0 at the start",
-    "dense columns: equal",
-    "dense columns: different",
+    *(f"dense columns: {verdict}" for verdict in ("equal", "different", *TURNED)),
 )
 # random_pairs.py's, by name: one that is no longer drawn from is missed
-FAMILIES = ("mixed", "diagonal", "triples", "wide", "many_h", "long", "blocked", "few_gates", "equal")
+FAMILIES = ("mixed", "diagonal", "triples", "wide", "many_h", "long", "blocked", "few_gates", "equal", "turned")
 PICKS = (
     "first, fewer T gates",
     "second, fewer T gates",
@@ -53,29 +56,32 @@ PICKS = (
     "first, a tie",
     "first, different",
     "first, undecided",
+    "first, turned",
+    "first, turned, though the second has fewer gates",
+    *(f"first, {verdict}, though the second has fewer T gates" for verdict in TURNED),
 )
 SMALL_FAMILIES = ("small_equal", "small_turned", "small_changed", "small_unrelated", "small_phase", "small_open", "small_many_h", "small_long")
 SMALL = (
-    "equal",
-    "different",
-    *(f"power {j}" for j in range(8)),
     *(f"first differing input {place}" for place in ("0", "1", "in the middle", "the last")),
     *(f"{n} qubits" for n in range(1, 7)),
-    "no T gate: equal",
-    "no T gate: different",
+    *(f"no T gate: {verdict}" for verdict in ("equal", "different", *TURNED)),
     "60 H gates",
     "64 variables",
     "512 gates in both lists",
+    "turned, 512 gates in both lists",
     "one slice given twice",
     "bytes behind a record",
     "512 numbers",
     "more numbers",
     *(f"{before}, {after}" for before in ("zeros", "the lowest number", "the highest number", "rubbish") for after in ("accepted", "refused")),
-    "column by column: equal",
-    "column by column: different",
+    *(f"column by column: {verdict}" for verdict in ("equal", "different", *TURNED)),
 )
-# a small block through both comparisons
-BOTH = ("both equal", "both different", "both different, other inputs", "undecided there, equal here", "undecided there, different here")
+# a small block through both comparisons, by rows and by programs
+BOTH = (
+    *(f"both {verdict}" for verdict in ("equal", "different", *TURNED)),
+    "both different, other inputs",
+    *(f"undecided there, {verdict} here" for verdict in ("equal", "different", "turned")),
+)
 OF_A_LIST = (1, 2, 3, 4, 13, 5, 6, 7)
 REFUSALS = {
     "check": OF_A_LIST,
@@ -122,6 +128,10 @@ ANSWERS = (
     "inverse: twice",
     "write_report: length",
     "read_report: fields",
+    "write_report: verdict 3, length",
+    "write_report: verdict 4, refused",
+    "read_report: verdict 3, fields",
+    "read_report: verdict 4, refused",
     "bad row",
 )
 
@@ -132,14 +142,14 @@ def kind_class(kind):
 
 
 CLASSES = (
-    *(f"{call}: {verdict}" for call in ("compare", "program compare") for verdict in ref.VERDICTS),
-    *(f"program compare_small: {verdict}" for verdict in ("equal", "different")),
+    *(f"{call}: {verdict}" for call in ("compare", "program compare") for verdict in ("equal", "different", "undecided", *TURNED)),
+    *(f"{call}: {verdict}" for call in ("dense", "program compare_small") for verdict in ("equal", "different", *TURNED)),
     *(f"compare: {event}" for event in EVENTS),
     *(f"compare: {shape}" for shape in SHAPES),
     *(f"{call}: family {name}" for call in ("compare", "pick") for name in FAMILIES),
     "pick: family worth",
     *(f"dense: {name}" for name in SMALL),
-    *(f"dense: {name}" for name in BOTH),
+    *(f"{call}: {name}" for call in ("dense", "program compare_small") for name in BOTH),
     *(f"dense: family {name}" for name in SMALL_FAMILIES),
     *(f"pick: {choice}" for choice in PICKS),
     *(kind_class(kind) for kind in range(11)),

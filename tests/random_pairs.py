@@ -18,6 +18,11 @@ def one(kind, *qubits):
     return [(kind, q, 255) for q in qubits]
 
 
+def on(q, kinds):
+    """These kinds, one after the other, on a qubit."""
+    return [(kind, q, 255) for kind in kinds]
+
+
 def random_gate(rng, n, kinds):
     kind = rng.choice([k for k in kinds if n > 1 or k <= ref.H] or [ref.Z])
     a = rng.randrange(n)
@@ -50,11 +55,11 @@ def identity(rng, n):
         )
     words = ([ref.X] * 2, [ref.Y] * 2, [ref.H] * 2, [ref.T] * 8, [ref.S, ref.SI], [ref.S, ref.H] * 3, [ref.T, ref.TI])
     more = ([ref.H, ref.Z, ref.H, ref.X], [ref.T, ref.T, ref.SI], [ref.Z, ref.X, ref.Y], [ref.SI] * 4)
-    return [(k, q, 255) for k in rng.choice(words + more)]
+    return on(q, rng.choice(words + more))
 
 
 def rewritten(rng, n, first, times):
-    """The list with gates put in that do nothing."""
+    """The list with gates put in that do nothing, up to a power of ω."""
     second = list(first)
     for _ in range(times):
         more = identity(rng, n)
@@ -62,6 +67,29 @@ def rewritten(rng, n, first, times):
             at = rng.randint(0, len(second))
             second[at:at] = more
     return second
+
+
+def put_in(rng, gates, more):
+    """The list with more gates put in somewhere."""
+    at = rng.randint(0, len(gates))
+    return gates[:at] + more + gates[at:]
+
+
+# Gates on one qubit that are a power of ω: 1 or 7 by X and T, 1 or 7 by S and H, 2 or 6 by X, Y and Z, 4 by Z and X.
+BY_X_AND_T = [ref.X, ref.T] * 2
+TURNS = (BY_X_AND_T, [ref.X, ref.TI] * 2, [ref.S, ref.H] * 3, [ref.H, ref.SI] * 3, [ref.Y, ref.X, ref.Z], [ref.Z, ref.X, ref.Y], [ref.Z, ref.X] * 2)
+
+
+def turn(rng, n):
+    """Gates that are a power of ω, some times over."""
+    return on(rng.randrange(n), rng.choice(TURNS) * rng.randint(1, 7))
+
+
+def turned_end(rng, n, gates):
+    """A list of as many gates that ends with X on one qubit, and the same with X T X T for the first of these, up to seven times."""
+    q, times = rng.randrange(n), rng.randint(1, 7)
+    base, end = gates[:-28], one(ref.X, *[q] * 28)
+    return base + end, base + on(q, BY_X_AND_T * times) + end[4 * times :]
 
 
 def spoilt(rng, n, gates):
@@ -165,8 +193,11 @@ def long(rng):
     n = rng.choice((1, 16, rng.randint(2, 15)))
     h = rng.randint(0, (MOST_VARIABLES - n) // 2)
     first = random_list(rng, n, rng.choice(KINDS), MOST_GATES, h)
-    if rng.random() < 0.2:
+    luck = rng.random()
+    if luck < 0.2:
         return n, first, []
+    if luck < 0.4:
+        return n, *turned_end(rng, n, first)
     return n, first, rng.choice((first, spoilt(rng, n, first), random_list(rng, n, ALL, MOST_GATES, h)))
 
 
@@ -189,7 +220,7 @@ def few_gates(rng):
 
 
 def equal(rng):
-    """Equal lists whose T gates and lengths differ: for the pick."""
+    """Equal lists, or a power of ω apart, whose T gates and lengths differ: for the pick."""
     n = rng.randint(1, 3)
     first = random_list(rng, n, rng.choice((WITHOUT_H, CLIFFORD)), rng.randint(0, 6), 2)
     pair = [first, rewritten(rng, n, first, rng.randint(0, 2))]
@@ -205,12 +236,19 @@ def worth(rng):
     a, b = rng.sample(range(n), 2)
     words = [[k] * 2 for k in (ref.X, ref.Y, ref.Z, ref.H)] + [[k] * 4 for k in (ref.S, ref.SI)]
     words += [[k] * 8 for k in (ref.T, ref.TI)] + [[ref.S, ref.SI], [ref.T, ref.TI], [ref.T, ref.T, ref.SI], [ref.S, ref.TI, ref.TI]]
-    ways = [[(k, a, 255) for k in word] for word in words] + [[(k, a, b)] * 2 for k in (ref.CX, ref.CZ, ref.SWAP)]
+    ways = [on(a, word) for word in words] + [[(k, a, b)] * 2 for k in (ref.CX, ref.CZ, ref.SWAP)]
     base = random_list(rng, n, WITHOUT_H, rng.randint(0, 3), 0)
     return n, base + rng.choice(ways) * rng.randint(0, 3), base + rng.choice(ways) * rng.randint(1, 3)
 
 
-FAMILIES = (mixed, diagonal, triples, wide, many_h, long, blocked, few_gates, equal)
+def turned(rng):
+    """Lists a power of ω apart; either may be the one with more gates, and with more T gates."""
+    n = rng.choice((1, 2, 3, rng.randint(4, 15), 16))
+    base = random_list(rng, n, rng.choice((WITHOUT_H, CLIFFORD, [ref.X, ref.T, ref.CX, ref.CZ])), rng.randint(0, 20), 5)
+    return n, *rng.sample((base, put_in(rng, rewritten(rng, n, base, rng.randint(0, 2)), turn(rng, n))), 2)
+
+
+FAMILIES = (mixed, diagonal, triples, wide, many_h, long, blocked, few_gates, equal, turned)
 
 
 # Small blocks.
@@ -221,29 +259,18 @@ def block(rng, n):
     return random_list(rng, n, rng.choice(KINDS), rng.choice((0, 3, 8, 15, 30)), rng.randint(0, 14))
 
 
-def put_in(rng, gates, more):
-    """The list with more gates put in somewhere."""
-    at = rng.randint(0, len(gates))
-    return gates[:at] + more + gates[at:]
-
-
 def small_equal(rng):
-    """Equal lists, by gates put in that do nothing, often up to a power of ω."""
+    """Equal lists, by gates put in that do nothing, now and then up to a power of ω."""
     n = rng.randint(1, 6)
     first = block(rng, n)
     return n, first, rewritten(rng, n, first, rng.randint(0, 3))
 
 
-def turn(q):
-    """X T X T on a qubit: ω."""
-    return [(k, q, 255) for k in (ref.X, ref.T) * 2]
-
-
 def small_turned(rng):
-    """Equal lists, a power of ω apart."""
+    """Lists a power of ω apart."""
     n = rng.randint(1, 6)
     first = block(rng, n)
-    return n, first, put_in(rng, rewritten(rng, n, first, rng.randint(0, 1)), turn(rng.randrange(n)) * rng.randint(1, 7))
+    return n, first, put_in(rng, rewritten(rng, n, first, rng.randint(0, 1)), turn(rng, n))
 
 
 def small_changed(rng):
@@ -278,7 +305,8 @@ def small_phase(rng):
 
 
 def small_open(rng):
-    """Equal lists, or all but for a gate, that the steps often leave undecided: H, T and CX on two qubits that stay bound to each other."""
+    """Equal lists, or a power of ω apart, or all but for a gate, that the steps often leave undecided: H, T and CX on two qubits that stay bound
+    to each other."""
     n = rng.randint(2, 6)
     a, b = rng.sample(range(n), 2)
     middle = [*one(ref.H, a, b), *one(rng.choice((ref.T, ref.TI)), a), (ref.CX, b, a), *one(ref.H, b), (ref.CX, b, a), *one(ref.H, a)]
@@ -301,9 +329,8 @@ def small_many_h(rng):
 def small_long(rng):
     """512 gates in both lists: equal, a power of ω apart, or with one gate replaced."""
     n = rng.choice((1, 5, 6))
-    base = random_list(rng, n, rng.choice((ALL, [ref.T, ref.H, ref.CX, ref.CZ])), MOST_GATES - 4, rng.randint(0, 29))
-    first = base + one(ref.X, *[0] * 4)
-    return n, first, rng.choice((base + one(ref.Y, *[n - 1] * 4), base + turn(0), spoilt(rng, n, first)))
+    first, second = turned_end(rng, n, random_list(rng, n, rng.choice((ALL, [ref.T, ref.H, ref.CX, ref.CZ])), MOST_GATES, rng.randint(0, 29)))
+    return n, first, rng.choice((first[:-4] + one(ref.Y, *[n - 1] * 4), second, second, spoilt(rng, n, first)))
 
 
 SMALL = (small_equal, small_turned, small_changed, small_unrelated, small_phase, small_open, small_many_h, small_long)
