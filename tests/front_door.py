@@ -12,6 +12,7 @@ import os
 import pty
 import random
 import re
+import resource
 import shutil
 import signal
 import subprocess
@@ -86,19 +87,25 @@ def one(names):
 EXAMPLE = bytes.fromhex("514301060003 00FF 0700FF 0300FF 0700FF 0300FF 0700FF".replace(" ", ""))
 NOTHING = bytes.fromhex("5143010000")
 FULL = record(1, ["T 0"] * 512)
-# document 01, "Pairs to try": the rows marked P, and CX; the line of compare and that of compare_small
+# document 01, "Pairs to try", as 02 item 4 changes them: the rows marked P, and CX; then what is turned or, with Y's own matrix, equal; the line of
+# compare and that of compare_small
 ROWS = (
     (one(""), NOTHING, "equal 0 0 0 0 0 0 0", "equal 0 0"),
     (one("H"), NOTHING, "different 0 0 1 0 0 0 0", "different 0 0"),
     (one("H H"), NOTHING, "equal 0 0 1 1 0 0 0", "equal 0 0"),
     (one("H H H H"), NOTHING, "equal 0 0 1 1 0 1 0", "equal 0 0"),
-    (EXAMPLE, NOTHING, "equal 0 0 1 1 1 0 0", "equal 0 0"),
+    (EXAMPLE, NOTHING, "turned 7 0 1 1 1 0 0", "turned 7 0"),
     (one("T T"), one("S"), "equal 0 0 0 0 0 0 0", "equal 0 0"),
     (one("T"), NOTHING, "different 0 1 0 0 0 0 0", "different 0 1"),
     (one("X"), NOTHING, "different 0 0 0 0 0 0 0", "different 0 0"),
     (one("H Z H"), NOTHING, "different 0 0 1 0 0 0 1", "different 0 0"),
     (one("H T H"), NOTHING, "undecided 0 0 1 0 0 0 1", "different 0 0"),
     (record(2, ["CX 0 1"]), record(2, []), "different 1 1 0 0 0 0 0", "different 0 1"),
+    *((one("X T X T " * k), NOTHING, f"turned {8 - k} 0 0 0 0 0 0", f"turned {8 - k} 0") for k in range(1, 8)),
+    (one("X T X T " * 8), NOTHING, "equal 0 0 0 0 0 0 0", "equal 0 0"),
+    (one("Z X"), one("Y"), "turned 2 0 0 0 0 0 0", "turned 2 0"),
+    (one("Y"), one("Z X"), "turned 6 0 0 0 0 0 0", "turned 6 0"),
+    (one("Y Y"), NOTHING, "equal 0 0 0 0 0 0 0", "equal 0 0"),
 )
 # a file for each number that a list alone is refused by, in the order of the checks
 BAD = {
@@ -143,7 +150,7 @@ BLOCKS = (
     ("12 before 14", record(7, []), record(7, []) + b"\0", "refused 12"),
     ("13 before 14", record(7, []), record(7, ["T 0"])[:-1], "refused 13"),
 )
-WORDS = {"equal": 0, "different": 1, "undecided": 2, "refused": 3}
+WORDS = {"equal": 0, "different": 1, "undecided": 2, "refused": 3, "turned": 4}
 
 
 class Door:
@@ -170,7 +177,7 @@ class Door:
 
 COMPARE, SMALL = Door("compare", 7), Door("compare_small", 2)
 DOORS = (COMPARE, SMALL)
-EQUAL = "equal 0 0 1 1 1 0 0"  # the example against nothing, by compare
+TURNED = "turned 7 0 1 1 1 0 0"  # the example against nothing, by compare
 
 
 def status_of(line):
@@ -195,7 +202,7 @@ def border_cases(door):
     for size, cut, line in cut_cases():
         yield f"first cut to {size} bytes", cut, NOTHING, line
         yield f"second cut to {size} bytes", NOTHING, cut, line
-    yield "the whole example second", NOTHING, EXAMPLE, "equal 0 0 1 1 1 0 0"
+    yield "the whole example second", NOTHING, EXAMPLE, "turned 1 0 1 1 1 0 0"
     yield "cut first that the second would complete", EXAMPLE[:-1], b"\xff" + NOTHING, "refused 13"
     yield "cut head that the second would complete", EXAMPLE[:4], EXAMPLE[4:] + NOTHING, "refused 1"
     for (number, bad), other in zip(BAD.items(), [*BAD.values()][1:] + [BAD[1]]):
@@ -284,7 +291,7 @@ def program_answers(room, door):
 
 def slow_stream(_, door):
     """One byte a write: the program waits for the end of its input."""
-    for data, line in ((EXAMPLE + NOTHING, EQUAL), (EXAMPLE + NOTHING + b"\0", "refused 12")):
+    for data, line in ((EXAMPLE + NOTHING, TURNED), (EXAMPLE + NOTHING + b"\0", "refused 12")):
         with subprocess.Popen([door.program], stdin=subprocess.PIPE, stdout=subprocess.PIPE, bufsize=0) as child:
             for byte in data:
                 child.stdin.write(bytes([byte]))
@@ -312,7 +319,7 @@ def refuses_to_read(door, label, words, message, **more):
 
 
 def program_failures(room, door):
-    """Inputs and arguments that cannot be had, and a line that cannot be written."""
+    """Inputs and arguments that cannot be had."""
     good, folder, gone = room.file(NOTHING), room.path, os.path.join(room.path, "gone")
     for label, words, message in (
         ("missing first", [gone, good], f"{gone}: No such file"),
@@ -333,12 +340,57 @@ def program_failures(room, door):
     fd = os.open(folder, os.O_RDONLY)
     refuses_to_read(door, "standard input a directory", [], "standard input: Is a directory", stdin=fd)
     os.close(fd)
-    with open("/dev/full", "wb") as full:
-        _, _, err = run([door.program, good, good], stdout=full)
-    check("program, /dev/full", err, f"{door.name}: standard output: No space left on device\n")
-    _, _, err = run(["sh", "-c", 'exec "$@" >&-', "sh", door.program, good, good])
-    check("program, closed standard output", err, f"{door.name}: standard output: Bad file descriptor\n")
     failed_in_the_middle(door)
+
+
+def unwritable():
+    """(label, descriptor, what the system says): standard outputs that take no line. Whoever reads the last one's pipe does not come to it."""
+    reader, unread = os.pipe()
+    os.close(reader)
+    reader, stuffed = os.pipe()
+    os.set_blocking(stuffed, False)
+    for size in (65536, 1):
+        try:
+            while os.write(stuffed, bytes(size)):
+                pass
+        except BlockingIOError:
+            pass
+    ways = (
+        ("/dev/full", os.open("/dev/full", os.O_WRONLY), "No space left on device"),
+        ("open for reading alone", os.open("/dev/null", os.O_RDONLY), "Bad file descriptor"),
+        ("nobody reads", unread, "Broken pipe"),
+        ("a full pipe", stuffed, "Resource temporarily unavailable"),
+    )
+    yield from ways
+    for fd in (reader, *(fd for _, fd, _ in ways)):
+        os.close(fd)
+
+
+def failed_writes(room, door):
+    """A line that cannot be written, of every verdict and of a refusal: a message, from the program and from the script, whose status is 74. The
+    signal of a pipe that nobody reads is left ignored, as this process has it, but for two checks."""
+    told, closed = f"{door.name}: standard output: ", ["sh", "-c", 'exec "$@" >&-', "sh"]
+    for word, first in (("equal", NOTHING), ("turned", EXAMPLE), ("different", one("X")), ("refused", NOTHING + b"\0")):
+        files = [room.file(first), room.file(NOTHING)]
+        for label, out, why in unwritable():
+            more = {"stdout": out, "restore_signals": False}
+            check(f"program, {word}, {label}", run([door.program, *files], **more)[2], f"{told}{why}\n")
+            check(f"program, stream: {word}, {label}", run([door.program], input=first + NOTHING, **more)[2], f"{told}{why}\n")
+            check(f"script, {word}, {label}", run([door.script, *files], **more)[::2], (74, f"{told}the line could not be written\n"))
+        check(f"program, {word}, closed", run([*closed, door.program, *files])[2], f"{told}Bad file descriptor\n")
+        check(f"script, {word}, closed", run([*closed, door.script, *files])[::2], (74, f"{told}is closed\n"))
+    files = [room.file(EXAMPLE), room.file(NOTHING)]
+    reader, unread = os.pipe()
+    os.close(reader)
+    check("program, nobody reads, ended by the signal", run([door.program, *files], stdout=unread)[::2], (-signal.SIGPIPE, ""))
+    check("script, nobody reads, the signal", run([door.script, *files], stdout=unread)[::2], (74, f"{told}the line could not be written\n"))
+    os.close(unread)
+    for size, name, want in ((0, door.program, (0, f"{told}File too large\n")), (4, door.program, (0, f"{told}File too large\n")),
+                             (4, door.script, (74, f"{told}the line could not be written\n"))):
+        more = {"restore_signals": False, "preexec_fn": lambda: resource.setrlimit(resource.RLIMIT_FSIZE, (size, size))}
+        with open(room.file(b"", "short"), "r+b") as short:
+            check(f"{os.path.relpath(name, ROOT)}, a file of {size} bytes at most", run([name, *files], stdout=short, **more)[::2], want)
+            check(f"{os.path.relpath(name, ROOT)}, a file of {size} bytes at most: what it has", os.pread(short.fileno(), 99, 0), b"turned"[:size])
 
 
 def writes_of(words, **more):
@@ -357,11 +409,11 @@ def one_write(room, door):
     """A line goes out in one write, from the program and from the script."""
     two = writes_of(["sh", "-c", "echo a; echo b"])
     check("the pipe keeps two writes apart", two, [b"a\n", b"b\n"])
-    for first, line in ((EXAMPLE, EQUAL), (EXAMPLE + b"\0", "refused 12")):
+    for first, line in ((EXAMPLE, TURNED), (NOTHING, "equal 0 0 0 0 0 0 0"), (EXAMPLE + b"\0", "refused 12")):
         words = [room.file(first), room.file(NOTHING)]
         check("program, files: one write", writes_of([door.program, *words]), [door.line(line)])
         check("script, files: one write", writes_of([door.script, *words]), [door.line(line)])
-    check("program, stream: one write", writes_of([door.program], input=EXAMPLE + NOTHING), [door.line(EQUAL)])
+    check("program, stream: one write", writes_of([door.program], input=EXAMPLE + NOTHING), [door.line(TURNED)])
 
 
 # ---- the script
@@ -387,7 +439,7 @@ def script_names(room, door):
     other = Room(spaced)
     other.file(EXAMPLE, "a  b")
     other.file(NOTHING, "-h")
-    want = (0, door.line(EQUAL), "")
+    want = (status_of(TURNED), door.line(TURNED), "")
     check("script, names with spaces and a dash", run([door.script, "--", "a  b", "-h"], cwd=spaced), want)
     check("script, a dash in the middle of a path", run([door.script, "a  b", "./-h"], cwd=spaced), want)
     check("script, a dash without --", run([door.script, "a  b", "-x"], cwd=spaced)[:2], (64, b""))
@@ -412,7 +464,9 @@ def script_usage(room, door):
         status, out, err = run([door.script, option])
         check(f"script {option}", (status, err), (0, ""))
         told = [int(number) for number in re.findall(r"^ +(\d+)  ", out.decode(), re.M)]
-        check(f"script {option}, the exit statuses", told, [number for number in (0, 1, 2, 3, 64, 70, 74) if number != 2 or door is COMPARE])
+        check(f"script {option}, the exit statuses", told, [number for number in (0, 1, 2, 3, 4, 64, 70, 74) if number != 2 or door is COMPARE])
+        words = {word: int(number) for number, word in re.findall(r"^ +(\d)  (\w+)", out.decode(), re.M)}
+        check(f"script {option}, the verdicts", words, {word: number for word, number in WORDS.items() if number != 2 or door is COMPARE})
         holds(f"script {option}, its name", out.decode().startswith(f"usage: {door.name} FIRST SECOND "), out)
     for words in ([good], [good, good, good], ["--unknown", good], ["-", good], [good, "--x"], ["--", good]):
         status, out, err = run([door.script, *words])
@@ -427,7 +481,7 @@ def script_usage(room, door):
 
 
 def script_failures(room, door):
-    """Exit status 74: inputs that cannot be read and lines that cannot be written."""
+    """Exit status 74: inputs that cannot be read, and help that cannot be written."""
     good, gone = room.file(NOTHING), os.path.join(room.path, "gone")
     failing = ("a read that fails", ["/proc/self/mem", good])
     for label, words in (("missing", [gone, good]), ("directory", [good, room.path]), ("empty name", ["", good]), failing):
@@ -438,17 +492,11 @@ def script_failures(room, door):
     fd = os.open(room.path, os.O_RDONLY)
     check("script, standard input a directory", run([door.script], stdin=fd)[:2], (74, b""))
     os.close(fd)
-    for words in ([good, good], ["--help"]):
-        with open("/dev/full", "wb") as full:
-            status, _, err = run([door.script, *words], stdout=full)
-        check(f"script, /dev/full {words[-1]}", (status, err.split()[0]), (74, f"{door.name}:"))
-        closed = ["sh", "-c", 'exec "$@" >&-', "sh", door.script, *words]
-        status, _, err = run(closed)
-        check(f"script, closed standard output {words[-1]}", (status, err.split()[0]), (74, f"{door.name}:"))
-        reader, writer = os.pipe()
-        os.close(reader)
-        check(f"script, nobody reads {words[-1]}", run([door.script, *words], stdout=writer)[0], 74)
-        os.close(writer)
+    for label, out, _ in unwritable():
+        got = run([door.script, "--help"], stdout=out)[::2]
+        check(f"script --help, {label}", got, (74, f"{door.name}: standard output: cannot be written\n"))
+    closed = ["sh", "-c", 'exec "$@" >&-', "sh", door.script, "--help"]
+    check("script --help, closed standard output", run(closed)[::2], (74, f"{door.name}: standard output: is closed\n"))
 
 
 def unread_messages(room, door):
@@ -561,7 +609,7 @@ class Copy:
     def compare(self, label, runs, tool=True, door=COMPARE):
         """The comparison gives its line, and the stand-in has been run so often."""
         status, out, err = run(self.words(door), env=self.env(tool))
-        check(f"build, {label}", (status, out, self.runs()), (0, door.line(EQUAL), runs))
+        check(f"build, {label}", (status, out, self.runs()), (status_of(TURNED), door.line(TURNED), runs))
         return err
 
 
@@ -624,7 +672,7 @@ def progress_meanwhile(copy):
     os.close(reader)
     got = subprocess.run(copy.words(), env=copy.env(), stdout=subprocess.PIPE, stderr=writer, timeout=SECONDS)
     os.close(writer)
-    check("build, nobody reads the progress", (got.returncode, got.stdout), (0, COMPARE.line(EQUAL)))
+    check("build, nobody reads the progress", (got.returncode, got.stdout), (status_of(TURNED), COMPARE.line(TURNED)))
 
 
 def others_use(copy):
@@ -660,7 +708,7 @@ def at_once(copy):
     children = [(door, subprocess.Popen(copy.words(door), **more)) for door in DOORS * 3]
     for door, child in children:
         out, _ = child.communicate(timeout=SECONDS)
-        check("build, six at once", (child.returncode, out), (0, door.line(EQUAL)))
+        check("build, six at once", (child.returncode, out), (status_of(TURNED), door.line(TURNED)))
     check("build, six at once, a build of each", copy.runs() - before, 2)
     holds("build, six at once, one after the other", not os.path.exists(os.path.join(copy.tools, "two")), "two")
 
@@ -684,14 +732,44 @@ def under_either_name(copy):
     with open(os.path.join(copy.tools, "runs"), encoding="utf-8") as file:
         asked = file.read().split()[2 * before + 1 :: 2]
     check("build, what rt is asked for under each name", asked, ["compare_small", "compare", "compare_small", "compare_small"])
-    for line in ("equal 0 0 0 0 0 0 0", "undecided 0 0", "equal 0 0 0", "different 0"):
-        copy.put(os.path.join(copy.tools, "compare_small"), f"#!/bin/sh\necho {line}\n")
-        copy.put("crates/a/lib.rt", f"// {line}\n")
-        check(f"build, compare_small: {line} is no result", run(other, env=copy.env())[:2], (70, b""))
-    shutil.copy(SMALL.program, copy.tools)
     os.rename(os.path.join(copy.root, "compare"), os.path.join(copy.root, "kept"))
     check("compare_small without compare", run(other, env=copy.env())[:2], (70, b""))
     os.rename(os.path.join(copy.root, "kept"), os.path.join(copy.root, "compare"))
+
+
+# lines that are a result, and that are none: the form, a word and so many numbers, is all that the script holds a line to
+RESULTS = {
+    COMPARE: (
+        "equal 0 0 0 0 0 0 0", "different 0 3 0 0 0 0 0", "undecided 0 0 1 0 0 0 1", "refused 9", "turned 7 0 1 1 1 0 0", "turned 1 0 0 0 0 0 0",
+        "turned 0 0 0 0 0 0 0", "turned 8 65535 255 0 0 0 0",
+    ),
+    SMALL: ("equal 0 0", "different 0 3", "refused 14", "turned 7 0", "turned 1 0", "turned 0 0"),
+}
+NO_RESULTS = {
+    COMPARE: (
+        "equal 0 0", "turned", "turned 7", "turned 7 0", "turned 7 0 1 1 1 0", "turned 7 0 1 1 1 0 0 0", "turned 07 0 1 1 1 0 0", "turned -1 0 1 1 1 0 0",
+        "turned  7 0 1 1 1 0 0", "turned 7 0 1 1 1 0 0 ", "Turned 7 0 1 1 1 0 0", "turn 7 0 1 1 1 0 0", "returned 7 0 1 1 1 0 0", "turned7 0 1 1 1 0 0",
+        "turned 7 0 1 1 1 0 x", "turned 7 0 1 1 1 0 0\nturned 7 0 1 1 1 0 0", "refused", "refused 9 0",
+    ),
+    SMALL: ("equal 0 0 0 0 0 0 0", "undecided 0 0", "equal 0 0 0", "different 0", "turned 7", "turned 7 0 1 1 1 0 0", "turned 7 0 0", "turned 07 0"),
+}
+
+
+def lines_of_a_program(copy):
+    """A program that prints a line of its own: with the line's status where it is a result, else 70 and no line."""
+    printed = os.path.join(copy.tools, "printed")
+    for door in DOORS:
+        copy.put(os.path.join(copy.tools, door.name), f"#!/bin/sh\ncat '{printed}'\n")
+        os.remove(os.path.join(copy.root, "target/bin", door.name))
+        for line in RESULTS[door]:
+            copy.put(printed, line + "\n")
+            check(f"{door.name}: a program that prints {line}", run(copy.words(door), env=copy.env())[:2], (status_of(line), line.encode() + b"\n"))
+        for line in NO_RESULTS[door]:
+            copy.put(printed, line + "\n")
+            check(f"{door.name}: a program that prints {line!r}, no result", run(copy.words(door), env=copy.env())[:2], (70, b""))
+        copy.put(os.path.join(copy.tools, door.name), f"#!/bin/sh\necho {RESULTS[door][0]}\nexit 1\n")
+        os.remove(os.path.join(copy.root, "target/bin", door.name))
+        check(f"{door.name}: a program that fails", run(copy.words(door), env=copy.env())[:2], (70, b""))
 
 
 def builds(room):
@@ -706,13 +784,8 @@ def builds(room):
     copy.put(os.path.join(copy.tools, "seconds"), "0\n")
     copy.put("crates/a/lib.rt", "// f\n")
     got = run(copy.words()[:1], env=copy.env(), input=EXAMPLE + NOTHING)
-    check("build, standard input is the comparison's", got[:2], (0, COMPARE.line(EQUAL)))
-    copy.put(os.path.join(copy.tools, "compare"), "#!/bin/sh\necho equal 0 0\n")
-    copy.put("crates/a/lib.rt", "// g\n")
-    check("build, a line that is no result", run(copy.words(), env=copy.env())[:2], (70, b""))
-    copy.put(os.path.join(copy.tools, "compare"), "#!/bin/sh\necho equal 0 0 0 0 0 0 0\nexit 1\n")
-    copy.put("crates/a/lib.rt", "// h\n")
-    check("build, a program that fails", run(copy.words(), env=copy.env())[:2], (70, b""))
+    check("build, standard input is the comparison's", got[:2], (status_of(TURNED), COMPARE.line(TURNED)))
+    lines_of_a_program(copy)
 
 
 # ---- examples
@@ -834,7 +907,7 @@ def main():
         if status != 3:
             print(f"front_door: the script {door.name} does not run: {status}\n{err}")
             return 1
-    both = (program_answers, slow_stream, program_failures, one_write, script_answers, script_names, script_usage, script_failures,
+    both = (program_answers, slow_stream, program_failures, failed_writes, one_write, script_answers, script_names, script_usage, script_failures,
             unread_messages, closed_descriptors, unreadable)
     for door in DOORS:
         for part in both:
