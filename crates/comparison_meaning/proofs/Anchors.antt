@@ -14,6 +14,10 @@ use Rattle.comparison_meaning.specs.Verdict as verdict
 use Rattle.comparison_meaning.specs.Verdict.{Verdict, equal, different, undecided, number, numbered, weight, blockedInput, searched, judge, compare}
 use Rattle.comparison_meaning.specs.Table.{AllRight, rows, choices, powers}
 
+-- the verdicts' numbers
+pub verdict-numbers : (number equal ≡ 0) × ((number different ≡ 1) × ((number undecided ≡ 2) × (number verdict.turned ≡ 3)))
+verdict-numbers = (refl, (refl, (refl, refl)))
+
 -- a verdict's number tells it
 pub verdict-number-tells : (v : Verdict) → numbered (number v) ≡ v
 verdict-number-tells equal = refl
