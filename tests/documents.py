@@ -1,8 +1,8 @@
 #!/usr/bin/env python3
 """Holds the documents to the repository: every definition, theorem, function and edit that docs/DEMANDS.md cites exists, every edit is
 cited there, and every crate stands in README.md and crates.txt. Every name and file that a document writes as code is there, every file of
-tests/ stands in tests/README.md, README.md has the exit statuses of the script, every case of a refusal with its number and the list that is
-undecided against itself, and no document has a path of one machine.
+tests/ stands in tests/README.md, README.md has the exit statuses of the script with their words, every case of a refusal with its number, the last
+verdict of a report and the list that is undecided against itself, and no document has a path of one machine.
 
     python3 tests/documents.py
 """
@@ -75,14 +75,18 @@ def name_faults(crates):
 
 
 def readme_faults(crates):
-    """Crates, exit statuses and the list that is undecided against itself."""
+    """Crates, exit statuses, the last verdict and the list that is undecided against itself."""
     readme, listed = text("README.md"), re.findall(r"^([a-z_0-9]+):", text("crates.txt"), flags=re.M)
     faults = [f"README.md does not name the crate {crate}" for crate in crates if f"`{crate}`" not in readme]
     faults += [f"crates.txt does not list the crate {crate}" for crate in crates if crate not in listed]
     faults += [f"crates.txt lists {crate}, which is no crate" for crate in listed if crate not in crates]
-    table = re.findall(r"^\| ([\d, ]+) \|", readme, flags=re.M)
-    if sorted(re.findall(r"\d+", " ".join(table))) != sorted(re.findall(r"^ +(\d+)  ", text("compare"), flags=re.M)):
+    table = re.findall(r"^\| ([\d, ]+) \| (.*) \|$", readme, flags=re.M)
+    told = [(number, word.split()[0].strip(",;:")) for numbers, words in table for number, word in zip(numbers.split(", "), words.split(", "))]
+    if sorted(told) != sorted(re.findall(r"^ +(\d+)  (\w+)", text("compare"), flags=re.M)):
         faults.append("README.md has other exit statuses than compare --help")
+    last = re.search(r"^lastVerdict = (\d+)$", text("crates/record_format/specs/Format.antt"), flags=re.M)
+    if not last or f"a report's verdict is above {last[1]} " not in readme:
+        faults.append("README.md has another last verdict than the definitions")
     rows = dict(re.findall(r"^([^;\n]*);.* => (.*)$", text("tests/rows.txt"), flags=re.M))
     said = re.search(r"undecided, even against itself:.* is `(undecided [\d ]+)`", readme)
     if not said or said.group(1) != rows.get("undecided against itself"):

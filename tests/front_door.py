@@ -593,6 +593,11 @@ class Copy:
         with open(os.path.join(self.root, name), "w", encoding="utf-8") as file:
             file.write(text)
 
+    def program(self, door, text):
+        """What is built from now on is this piece of shell."""
+        self.put(os.path.join(self.tools, door.name), f"#!/bin/sh\n{text}\n")
+        self.put("crates/a/lib.rt", f"// {text}\n")
+
     def runs(self):
         """How often the stand-in was asked to build."""
         with open(os.path.join(self.tools, "runs"), encoding="utf-8") as file:
@@ -759,16 +764,12 @@ def lines_of_a_program(copy):
     """A program that prints a line of its own: with the line's status where it is a result, else 70 and no line."""
     printed = os.path.join(copy.tools, "printed")
     for door in DOORS:
-        copy.put(os.path.join(copy.tools, door.name), f"#!/bin/sh\ncat '{printed}'\n")
-        os.remove(os.path.join(copy.root, "target/bin", door.name))
-        for line in RESULTS[door]:
+        copy.program(door, f"cat '{printed}'")
+        for line in RESULTS[door] + NO_RESULTS[door]:
             copy.put(printed, line + "\n")
-            check(f"{door.name}: a program that prints {line}", run(copy.words(door), env=copy.env())[:2], (status_of(line), line.encode() + b"\n"))
-        for line in NO_RESULTS[door]:
-            copy.put(printed, line + "\n")
-            check(f"{door.name}: a program that prints {line!r}, no result", run(copy.words(door), env=copy.env())[:2], (70, b""))
-        copy.put(os.path.join(copy.tools, door.name), f"#!/bin/sh\necho {RESULTS[door][0]}\nexit 1\n")
-        os.remove(os.path.join(copy.root, "target/bin", door.name))
+            want = (status_of(line), line.encode() + b"\n") if line in RESULTS[door] else (70, b"")
+            check(f"{door.name}: a program that prints {line!r}", run(copy.words(door), env=copy.env())[:2], want)
+        copy.program(door, f"echo {RESULTS[door][0]}; exit 1")
         check(f"{door.name}: a program that fails", run(copy.words(door), env=copy.env())[:2], (70, b""))
 
 

@@ -1,6 +1,6 @@
 #!/usr/bin/env python3
-"""Tries the gate itself: .ci/run over stand-ins for rt and the tests, and the tests over copies with a fault put in. Each fault must be
-noticed, and what has none must pass.
+"""Tries the gate itself: .ci/run over stand-ins for rt and the tests, and the tests over copies and scripts with a fault put in. Each fault must
+be noticed, and what has none must pass.
 
     python3 tests/gate.py
 
@@ -16,6 +16,8 @@ import tempfile
 
 sys.dont_write_bytecode = True
 import against_reference as cross
+import front_door
+import make_rows
 from call_rows import PROGRAMS
 from classes import CLASSES
 
@@ -144,6 +146,10 @@ def try_row_faults(folder):
     pair = "unknown kind;compare;3136 3136 0;5143010000;51430101000b00ff => refused 5 second gate 0\n"
     small = "dense: different at 6 on 3;dense;512 22;3:k12;3: => different 0 6\n"
     short = "dense: 511 numbers;dense;511 9;1:t0;1:t0 => refused 10, numbers zero 0 kept 520\n"
+    turned = "x t x t, 3 times;compare;3136 3136 0;1:{x0 t0 x0 t0 *3};1: => turned 5 0 0 0 0 0 0\n"
+    again = "dense: turned 3 times;dense;512 21;1:{x0 t0 x0 t0 *3};1: => turned 5 0\n"
+    picked = "turned 2: the first, z x and y;pick;3200 3200 177;1:z0 x0;1:y0 => first 51430102000200ff0000ff\n"
+    report = "report: verdict 3;read_report;;515603070000000101010000; => fields 3 7 0 1 1 1 0 0\n"
     for label, old, new in (
         ("a mistyped gate", row, row.replace(":h0", ":hh")),
         ("a gate without its qubit", row, row.replace(":h0", ":h")),
@@ -166,6 +172,14 @@ def try_row_faults(folder):
         ("a number lent too many", short, short.replace(";511 9;", ";512 9;")),
         ("a number not kept", short, short.replace("kept 520", "kept 519")),
         ("a number that is zero", short, short.replace("zero 0", "zero 1")),
+        ("equal for turned", turned, turned.replace("turned 5", "equal 0")),
+        ("turned by nothing", turned, turned.replace("turned 5", "turned 0")),
+        ("turned the other way", turned, turned.replace("turned 5", "turned 3")),
+        ("the power as the second number", turned, turned.replace("turned 5 0", "turned 0 5")),
+        ("equal for a turned small block", again, again.replace("turned 5", "equal 0")),
+        ("a small block turned the other way", again, again.replace("turned 5", "turned 3")),
+        ("the second picked where turned", picked, picked.replace("first 51430102000200ff0000ff", "second 51430101000100ff")),
+        ("verdict 3 refused", report, report.replace("fields 3 7 0 1 1 1 0 0", "refused 5")),
     ):
         with Fault(folder, "tests/rows.txt", old, new):
             trial(f"make_rows.py, {label}", run_test(folder, "make_rows.py", "--check")[0] != 0)
@@ -193,6 +207,49 @@ def try_reference_faults(folder):
         ("an index for a report", "raise Refused(5)\n    inputs", "raise Refused(5, 0)\n    inputs"),
     ):
         try_fault(folder, "reference.py", label, old, new)
+
+
+def try_turn_faults(folder):
+    """The same of verdicts: what is equal and what turned, by which power, what the pick makes of it and which ones a report has."""
+    named = 'return ("turned", power, 0) if power else ("equal", 0, 0)'
+    for label, old, new in (
+        ("turned as equal", named, 'return ("equal", 0, 0)'),
+        ("equal as turned", named, 'return ("turned", power, 0)'),
+        ("the power as the second number", named, named.replace("power, 0)", "0, power)")),
+        ("the constant not negated", "agreed(-s.constant % 8)", "agreed(s.constant)"),
+        ("half of the powers", "agreed(-s.constant % 8)", "agreed(-s.constant % 4)"),
+        ("a Y without its factor", "self.constant = (self.constant + 2) % 8", "self.constant += 0"),
+        ("a complemented phase without its constant", "self.constant = (self.constant + coefficient) % 8", "self.constant += 0"),
+        ("a turn without its constant", "s.constant = (s.constant + turn) % 8", "s.constant += 0"),
+        ("a small block's power the other way", "agreed(misfits.index(None))", "agreed(-misfits.index(None) % 8)"),
+        ("a small block that is never turned", "agreed(misfits.index(None))", "agreed(0)"),
+        ("the pick of what is turned", 'if verdict == "equal" and', 'if verdict in ("equal", "turned") and'),
+        ("no verdict 3 written", "if verdict >= len(VERDICTS):", "if verdict > 2:"),
+        ("a verdict 4 written", "if verdict >= len(VERDICTS):", "if verdict > 4:"),
+        ("no verdict 3 read", "if data[2] >= len(VERDICTS):", "if data[2] > 2:"),
+        ("a verdict 4 read", "if data[2] >= len(VERDICTS):", "if data[2] > 4:"),
+    ):
+        try_fault(folder, "reference.py", label, old, new)
+
+
+def try_column_faults(folder):
+    """Columns that do not bear out what rows and the independent implementation both say, and verdicts that the columns do not."""
+    for label, old, new in (
+        ("a Y that is an X", "return w ^ bit, 6 if one else 2", "return w ^ bit, 0"),
+        ("T for its inverse", "{Z: 4, S: 2, SI: 6, T: 1, TI: 7}[kind] if one else 0", "{Z: 4, S: 2, SI: 6, T: 7, TI: 1}[kind] if one else 0"),
+        ("an H without its sign", "times_omega(z, 4) if w >> a & 1 else z)", "z)"),
+        ("powers the other way", "{w: times_omega(z, j) for w, z in left.items()} == right", "{w: times_omega(z, 8 - j) for w, z in left.items()} == right"),
+        ("no root of two", "times_root_two(z, self.h2)", "z"),
+    ):
+        with Fault(folder, "tests/reference.py", old, new):
+            status, lines = run_test(folder, "make_rows.py", "--check")
+            trial(f"make_rows.py, columns with {label}", status != 0 and "the columns do not bear it out" in lines[-1], lines[-1:])
+    one, wide = ";compare;3136 3136 0;1:x0 t0 x0 t0;1:", ";compare;3136 3136 0;16:xf tf xf tf;16:"
+    for row in (one, wide):
+        passes(f"make_rows.py, turned 7 by columns{row}", make_rows.held_to_columns, 1, row, "turned 7 0 0 0 0 0 0")
+        trial(f"make_rows.py, held by columns{row}", make_rows.held_to_columns(1, row, "turned 7 0 0 0 0 0 0"))
+        for answer in ("equal 0 0 0 0 0 0 0", "turned 1 0 0 0 0 0 0", "turned 0 7 0 0 0 0 0", "turned 7 1 0 0 0 0 0", "different 0 1 0 0 0 0 0"):
+            ends(f"make_rows.py, {answer} by columns{row}", make_rows.held_to_columns, 1, row, answer)
 
 
 def try_search_faults(folder):
@@ -273,6 +330,9 @@ def try_documents(folder):
         ("a script that is not there", "README.md", "`./compare_small`", "`./compare_smal`", "compare_smal"),
         ("a path of one machine", "README.md", "## Calls", "See /some/where/else.\n\n## Calls", "/some/where"),
         ("an exit status", "README.md", "| 74 |", "| 73 |", "exit statuses"),
+        ("a verdict's exit status", "README.md", "| equal, different", "| different, equal", "exit statuses"),
+        ("an exit status that the script has not", "compare", "\n   4  turned", "\n      turned", "exit statuses"),
+        ("the last verdict of a report", "README.md", "a report's verdict is above ", "a report's verdict is above 1", "last verdict"),
         ("another number of a refusal", "README.md", "| `BodyShort` | 13 |", "| `BodyShort` | 1 |", "refusals"),
         ("a refusal not told", "README.md", "| `UnknownVerdict` | 5 |", "| no verdict | 5 |", "UnknownVerdict"),
         ("undecided against itself", "README.md", "even against itself", "sometimes", "against itself"),
@@ -329,6 +389,7 @@ def try_cross_check(folder):
         ends(f"cross-check, record_calls: {label}", one_row, text)
     left = "sets zero 3136 kept 3200, coeffs zero 3136 kept 3200"
     lent = "numbers zero 512 kept 520"
+    turn, none = "51430104000000ff0500ff0000ff0500ff", " 0" * 5
     for row, line, others in (
         ("check_gate;1 3 11 0 255;;", "refused 5 gate 3", ("refused 5 gate 4", "refused 5")),
         ("check;;5143010100;", "refused 13", ("refused 1", "refused 13 gate 0")),
@@ -337,25 +398,33 @@ def try_cross_check(folder):
         ("dense;512 0;5143010000;=", f"equal 0 0, {lent}", ("equal 0 0, numbers zero 511 kept 520", "equal 0 0, numbers zero 512 kept 519")),
         ("dense;0 0;5143070000;=", f"refused 14, {lent}", (f"refused 9, {lent}", f"refused 10, {lent}", f"equal 0 0, {lent}")),
         ("dense;0 0;5143010000;5143", f"refused 1 second, {lent}", (f"refused 1 first, {lent}", f"refused 1, {lent}")),
+        (f"dense;512 0;{turn};5143010000", f"turned 7 0, {lent}", (f"equal 0 0, {lent}", f"turned 1 0, {lent}", f"turned 0 7, {lent}")),
+        (f"compare;3136 3136 0;{turn};5143010000", f"turned 7 0{none}, {left}", (f"equal 0 0{none}, {left}", f"turned 1 0{none}, {left}")),
+        (f"pick;3136 3136 0;{turn};5143010000", f"first {turn}, {left}", (f"second 5143010000, {left}", f"first 5143010000, {left}")),
+        ("read_report;;515603070000000101010000;", "fields 3 7 0 1 1 1 0 0", ("refused 5", "fields 0 7 0 1 1 1 0 0")),
+        ("read_report;;515604070000000101010000;", "refused 5", ("fields 4 7 0 1 1 1 0 0",)),
     ):
         passes(f"cross-check, {line}", one_row, f"echo '0: {line}'; echo 'rows 1'", row)
         for other in others:
             ends(f"cross-check, {other} for {line}", one_row, f"echo '0: {other}'; echo 'rows 1'", row)
 
-    def one_input(name, text, want=None, data="51430100005143010000"):
+    def one_input(name, text, want, data):
         put(folder, name, f"#!/bin/sh\n{text}\n", 0o755)
         cross.Check().run_program(bytes.fromhex(data), want, name)
 
-    for name, line, others in (
-        ("compare", "equal 0 0 0 0 0 0 0", ("equal 0 0 0 0 0 0 1", "equal 0 0", "different 0 0 0 0 0 0 0")),
-        ("compare_small", "equal 0 0", ("equal 0 1", "equal 0 0 0 0 0 0 0", "different 0 0", "undecided 0 0")),
+    nothing = "5143010000"
+    for name, data, line, others in (
+        ("compare", nothing, "equal 0 0 0 0 0 0 0", ("equal 0 0 0 0 0 0 1", "equal 0 0", "different 0 0 0 0 0 0 0", "turned 0 0 0 0 0 0 0")),
+        ("compare_small", nothing, "equal 0 0", ("equal 0 1", "equal 0 0 0 0 0 0 0", "different 0 0", "undecided 0 0", "turned 0 0")),
+        ("compare", turn, "turned 7 0 0 0 0 0 0", ("equal 0 0 0 0 0 0 0", "turned 1 0 0 0 0 0 0", "turned 7 0", "turned 0 7 0 0 0 0 0")),
+        ("compare_small", turn, "turned 7 0", ("equal 0 0", "turned 1 0", "turned 7 0 0 0 0 0 0", "turned 7", "undecided 0 0")),
     ):
-        passes(f"cross-check, {name}: its line", one_input, name, f"echo {line}", line)
-        ends(f"cross-check, {name}: no end", one_input, name, f"printf '{line}'")
-        ends(f"cross-check, {name}: ended", one_input, name, f"echo {line}; kill -9 $$")
+        passes(f"cross-check, {name}: its line", one_input, name, f"echo {line}", line, data + nothing)
+        ends(f"cross-check, {name}: no end", one_input, name, f"printf '{line}'", None, data + nothing)
+        ends(f"cross-check, {name}: ended", one_input, name, f"echo {line}; kill -9 $$", None, data + nothing)
         for other in others:
-            ends(f"cross-check, {name}: {other}", one_input, name, f"echo {other}")
-            ends(f"cross-check, {name}: {other} is written", one_input, name, f"echo {line}", other)
+            ends(f"cross-check, {name}: {other}", one_input, name, f"echo {other}", None, data + nothing)
+            ends(f"cross-check, {name}: {other} is written", one_input, name, f"echo {line}", other, data + nothing)
     for data, number, others in (
         ("51430700005143070000", 14, (9, 10, 12)),
         ("5143070000514307000000", 12, (14, 9)),
@@ -386,7 +455,7 @@ def try_agreement(folder):
         check = cross.Check()
         check.rows, check.both = ["0;a row", "1;another"], [(0, 1)]
         check.printed = {"0": f"0: {here}, numbers zero 512 kept 8", "1": f"1: {there}, sets zero 3136 kept 64"}
-        cross.agree(check)
+        cross.agree_in_rows(check)
         return check.seen
 
     undecided = "undecided 0 0 1 0 0 0 1"
@@ -394,28 +463,80 @@ def try_agreement(folder):
         ("equal 0 0", "equal 0 0 1 1 0 0 0", "both equal"),
         ("different 0 0", "different 0 0 1 1 0 0 0", "both different"),
         ("different 0 3", "different 0 4 0 0 0 0 0", "both different, other inputs"),
+        ("turned 7 0", "turned 7 0 1 1 1 0 0", "both turned 7"),
         ("equal 0 0", undecided, "undecided there, equal here"),
+        ("turned 3 0", undecided, "undecided there, turned here"),
         ("different 0 0", undecided, "undecided there, different here"),
     ):
         trial(f"agreement, {name}", both(here, there)[f"dense: {name}"] == 1, both(here, there))
     trial("agreement, the same inputs", "dense: both different, other inputs" not in both("different 0 4", "different 0 4 0 0 0 0 0"))
-    for here, there in (("equal 0 0", "different 0 1 0 0 0 0 0"), ("different 0 1", "equal 0 0 0 0 0 0 0"), ("undecided 0 0", "equal 0 0 0 0 0 0 0")):
+    for here, there in (
+        ("equal 0 0", "different 0 1 0 0 0 0 0"),
+        ("different 0 1", "equal 0 0 0 0 0 0 0"),
+        ("undecided 0 0", "equal 0 0 0 0 0 0 0"),
+        ("equal 0 0", "turned 7 0 1 1 1 0 0"),
+        ("turned 7 0", "equal 0 0 1 1 1 0 0"),
+        ("turned 7 0", "turned 1 0 1 1 1 0 0"),
+        ("turned 7 0", "turned 7 1 1 1 1 0 0"),
+        ("turned 7 0", "different 0 0 1 1 1 0 0"),
+        ("different 0 1", "turned 1 0 0 0 0 0 0"),
+        ("equal 0 1", "equal 0 0 0 0 0 0 0"),
+    ):
         ends(f"agreement, {here} and {there}", both, here, there)
     trial("agreement, undecided by both is no class", not set(both("undecided 0 0", undecided)) & set(CLASSES))
 
-    def columns(fields, gates):
-        cross.check_small_columns(cross.Check(), 2, gates, [], fields.split())
+    cz, nothing, turn = [(cross.ref.CZ, 0, 1)], [], cross.pairs.on(1, cross.pairs.BY_X_AND_T)
+    for held in (cross.check_small_columns, cross.check_columns):
 
-    cz, nothing = [(cross.ref.CZ, 0, 1)], []
-    passes("columns, different", columns, "different 0 3", cz)
-    passes("columns, equal", columns, "equal 0 0", nothing)
-    for fields, gates in (("different 0 2", cz), ("different 0 4", cz), ("equal 0 0", cz), ("different 0 0", nothing), ("different 0 3", nothing)):
-        ends(f"columns, {fields} of {len(gates)} gates", columns, fields, gates)
+        def columns(fields, gates):
+            held(cross.Check(), 2, gates, [], fields.split())
+
+        for fields, gates in (("different 0 3", cz), ("equal 0 0", nothing), ("turned 7 0", turn)):
+            passes(f"{held.__name__}, {fields}", columns, fields, gates)
+        for fields, gates in (
+            *(("different 0 2", cz), ("different 0 4", cz), ("equal 0 0", cz), ("turned 4 0", cz)),
+            *(("different 0 0", nothing), ("different 0 3", nothing), ("turned 0 0", nothing), ("turned 8 0", nothing), ("equal 0 1", nothing)),
+            *(("equal 0 0", turn), ("turned 1 0", turn), ("turned 0 7", turn), ("turned 7 1", turn), ("different 0 0", turn)),
+        ):
+            ends(f"{held.__name__}, {fields} of {len(gates)} gates", columns, fields, gates)
+    ends("columns, a small block undecided", cross.check_small_columns, cross.Check(), 2, cz, [], ["undecided", "0", "0"])
+    ends("columns, another than the first input", cross.check_small_columns, cross.Check(), 2, cross.pairs.one(cross.ref.T, 0, 1), [], ["different", "0", "2"])
+
+
+# ---- the script
+def try_script(folder):
+    """The scripts over programs that print a line: what they make of it, and each fault in that is noticed."""
+    with open(os.path.join(ROOT, "compare"), encoding="utf-8") as file:
+        script = file.read()
+    for number, (label, old, new) in enumerate((
+        ("no fault", "", ""),
+        ("equal's status for turned", "turned*) finish 4", "turned*) finish 0"),
+        ("a refusal's status for turned", "turned*) finish 4 ;;\n", ""),
+        ("turned taken for no result", "|undecided|turned'", "|undecided'"),
+        ("turned taken for no result of a small block", "'equal|different|turned'", "'equal|different'"),
+        ("undecided taken for a result of a small block", "'equal|different|turned'", "'equal|different|undecided|turned'"),
+        ("any word taken for a verdict", "^($verdicts)", "^([a-z]+)"),
+        ("any length taken for a line", "{$numbers}$ ||", "* ||"),
+        ("a number that begins with 0", "number='(0|[1-9][0-9]*)'", "number='([0-9]+)'"),
+    )):
+        room = os.path.join(folder, str(number))
+        trial(f"compare has {old!r}", old in script)
+        put(room, "compare", script.replace(old, new, 1), 0o755)
+        shutil.copy(os.path.join(ROOT, "compare_small"), room)
+        for door in front_door.DOORS:
+            put(room, f"bin/{door.name}", "", 0o755)
+            door.script, door.program = os.path.join(room, door.name), os.path.join(room, "bin", door.name)
+        front_door.HELD.update(checks=0, failed=0)
+        shown = io.StringIO()
+        with contextlib.redirect_stdout(shown):
+            front_door.lines_of_a_program(front_door.Copy(os.path.join(room, "copy")))
+        noticed = front_door.HELD["failed"] > 0
+        trial(f"script, {label}", front_door.HELD["checks"] > 30 and noticed == bool(old), shown.getvalue() or "not noticed")
 
 
 def main():
     """Runs everything."""
-    for part in (try_gate, try_cross_check, try_agreement):
+    for part in (try_gate, try_cross_check, try_agreement, try_script):
         with tempfile.TemporaryDirectory() as folder:
             part(folder)
     with tempfile.TemporaryDirectory() as folder:
@@ -426,6 +547,8 @@ def main():
         try_rows(folder)
         try_row_faults(folder)
         try_reference_faults(folder)
+        try_turn_faults(folder)
+        try_column_faults(folder)
         try_search_faults(folder)
         try_small_faults(folder)
         try_documents(folder)
