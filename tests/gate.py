@@ -504,34 +504,49 @@ def try_agreement(folder):
 
 
 # ---- the script
+class Noticed(Exception):
+    """A check of the front door that does not hold."""
+
+
+def holds_or_ends(label, got, want):
+    """A check of the front door that ends the run where it does not hold."""
+    if got != want:
+        raise Noticed(f"{label}: {got!r}")
+
+
+def lines_taken(room, script):
+    """What the checks of the lines that a script takes notice, over programs that print them; None where that is nothing."""
+    put(room, "compare", script, 0o755)
+    shutil.copy(os.path.join(ROOT, "compare_small"), room)
+    for door in front_door.DOORS:
+        put(room, f"bin/{door.name}", "", 0o755)
+        door.script, door.program = os.path.join(room, door.name), os.path.join(room, "bin", door.name)
+    try:
+        front_door.lines_of_a_program(front_door.Copy(os.path.join(room, "copy")))
+    except Noticed as noticed:
+        return noticed
+    return None
+
+
 def try_script(folder):
-    """The scripts over programs that print a line: what they make of it, and each fault in that is noticed."""
+    """What the scripts make of a program's line."""
+    front_door.check = holds_or_ends
     with open(os.path.join(ROOT, "compare"), encoding="utf-8") as file:
         script = file.read()
-    for number, (label, old, new) in enumerate((
-        ("no fault", "", ""),
+    noticed = lines_taken(os.path.join(folder, "no fault"), script)
+    trial("script, no fault", noticed is None, noticed)
+    for label, old, new in (
         ("equal's status for turned", "turned*) finish 4", "turned*) finish 0"),
         ("a refusal's status for turned", "turned*) finish 4 ;;\n", ""),
         ("turned taken for no result", "|undecided|turned'", "|undecided'"),
         ("turned taken for no result of a small block", "'equal|different|turned'", "'equal|different'"),
         ("undecided taken for a result of a small block", "'equal|different|turned'", "'equal|different|undecided|turned'"),
         ("any word taken for a verdict", "^($verdicts)", "^([a-z]+)"),
-        ("any length taken for a line", "{$numbers}$ ||", "* ||"),
+        ("any length taken for a line", "{$numbers}$ ||", "*$ ||"),
         ("a number that begins with 0", "number='(0|[1-9][0-9]*)'", "number='([0-9]+)'"),
-    )):
-        room = os.path.join(folder, str(number))
+    ):
         trial(f"compare has {old!r}", old in script)
-        put(room, "compare", script.replace(old, new, 1), 0o755)
-        shutil.copy(os.path.join(ROOT, "compare_small"), room)
-        for door in front_door.DOORS:
-            put(room, f"bin/{door.name}", "", 0o755)
-            door.script, door.program = os.path.join(room, door.name), os.path.join(room, "bin", door.name)
-        front_door.HELD.update(checks=0, failed=0)
-        shown = io.StringIO()
-        with contextlib.redirect_stdout(shown):
-            front_door.lines_of_a_program(front_door.Copy(os.path.join(room, "copy")))
-        noticed = front_door.HELD["failed"] > 0
-        trial(f"script, {label}", front_door.HELD["checks"] > 30 and noticed == bool(old), shown.getvalue() or "not noticed")
+        trial(f"script, {label}", lines_taken(os.path.join(folder, label), script.replace(old, new, 1)) is not None, "not noticed")
 
 
 def main():
