@@ -19,6 +19,7 @@ import time
 ROOT = os.path.join(os.path.dirname(os.path.abspath(__file__)), "..")
 ENGINE = os.path.join(ROOT, "target", "bin", "compare")
 PAIRS = 5
+VERDICTS = ("equal", "turned", "different", "undecided")
 X, Y, Z, S, SI, T, TI, H, CX, CZ, SWAP = range(11)
 INVERSE = {S: SI, SI: S, T: TI, TI: T}
 
@@ -106,7 +107,7 @@ def parities(qubits, put):
 
 
 def fifteen(qubits):
-    """T on each of the fifteen parities of four qubits: together a power of ω."""
+    """T on each of the fifteen parities of four qubits: together nothing."""
     return parities(qubits, lambda q, _: [(T, q, 255)])
 
 
@@ -171,7 +172,7 @@ def same_line(plain, data, engine=ENGINE):
 
 def measured(plain, base, datas, engine=ENGINE):
     """The means of both programs' instructions over some pairs, and how the pairs came out."""
-    ours, theirs, tally = [], [], {"equal": 0, "different": 0, "undecided": 0}
+    ours, theirs, tally = [], [], dict.fromkeys(VERDICTS, 0)
     for data in datas:
         tally[same_line(plain, data, engine).split()[0].decode()] += 1
         ours.append(instructions(engine, data) - base[engine])
@@ -186,13 +187,13 @@ def singles():
     return {
         "A pair that keeps the search busy": busy_pair(),
         "The same, different at the last input of the search alone": last_pair(),
-        "The dearest equal pair on 16 qubits that `bench/dearest.py` found": dearest,
+        "The dearest equal or turned pair on 16 qubits that `bench/dearest.py` found": dearest,
     }
 
 
 def tables(plain, engine):
     base = {program: instructions(program, 2 * record([], 1)) for program in (engine, plain)}
-    lines = ["| family | gates a list | engine | plain Rust | ratio | equal | different | undecided |", "|---|---|---|---|---|---|---|---|"]
+    lines = [f"| family | gates a list | engine | plain Rust | ratio | {' | '.join(VERDICTS)} |", "|---" * (5 + len(VERDICTS)) + "|"]
     growth, everything = {}, []
     for name, family in FAMILIES.items():
         for length in family.lengths:
@@ -200,7 +201,7 @@ def tables(plain, engine):
             everything += datas
             ours, theirs, tally = measured(plain, base, datas, engine)
             growth[name, length] = ours
-            verdicts = " | ".join(str(tally[v]) for v in ("equal", "different", "undecided"))
+            verdicts = " | ".join(str(tally[v]) for v in VERDICTS)
             lines.append(f"| {name} | {length} | {ours:,} | {theirs:,} | {ours / theirs:.2f} | {verdicts} |")
             print(lines[-1], flush=True)
     lines += ["", "| family | 128 to 512 gates | bar at 512 |", "|---|---|---|"]

@@ -1,13 +1,13 @@
 #!/usr/bin/env python3
-"""Looks for the dearest equal pair on 16 qubits, 512 gates a list and at most 48 H gates in both: a shared list into which blocks that do
-nothing are inserted, other ones in each of the two lists. Such pairs are drawn in many mixes; then the dearest few are changed step by
-step in ways that keep them equal, and the dearest kept.
+"""Looks for the dearest pair on 16 qubits that is equal or turned, with 512 gates a list and at most 48 H gates in both: a shared list into which
+blocks that do nothing, but for a power of ω, are inserted, other ones in each of the two lists. Such pairs are drawn in many mixes; then the
+dearest few are changed step by step in ways that keep them so, and the dearest kept.
 
     rt check compare && python3 bench/dearest.py [EVALUATIONS] [--engine PROGRAM]
 
 The dearest pair goes to bench/dearest.pair, two records one after the other, which bench/compare.py measures in a line of its own. What
-counts is the engine's instructions less those of an empty pair; a pair that does not come out equal counts nothing. The same engine gives
-the same walk.
+counts is the engine's instructions less those of an empty pair; a pair that comes out neither equal nor turned counts nothing. The same engine
+gives the same walk.
 """
 import copy
 import os
@@ -66,7 +66,7 @@ def twice(rng):
 
 
 def thrice(rng):
-    """H and S by turns, three times."""
+    """H and S by turns, three times: a power of ω."""
     q = rng.randrange(QUBITS)
     return 3 * [(H, q, 255), (rng.choice((S, SI)), q, 255)]
 
@@ -183,9 +183,9 @@ class Pair:
 
 
 def cost(engine, base, pair):
-    """The engine's instructions for an equal pair, and 0 for another."""
+    """The engine's instructions for a pair that is equal or turned, and 0 for another."""
     data = pair.record()
-    if not bench.run([engine], data).stdout.startswith(b"equal"):
+    if not bench.run([engine], data).stdout.startswith((b"equal", b"turned")):
         return 0
     return bench.instructions(engine, data) - base
 

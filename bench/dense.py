@@ -77,7 +77,7 @@ def pairs(name):
 
 
 def table(plain):
-    lines = ["| family | qubits | gates a list | engine | plain Rust | ratio | equal | different |", "|---|---|---|---|---|---|---|---|"]
+    lines = ["| family | qubits | gates a list | engine | plain Rust | ratio | equal | turned | different |", "|---|---|---|---|---|---|---|---|---|"]
     base = {program: bench.instructions(program, 2 * record([], 1)) for program in (ENGINE, plain)}
     ratios = {}
     for name, family in FAMILIES.items():
@@ -85,7 +85,7 @@ def table(plain):
         ratios[name] = ours / theirs
         lines.append(
             f"| {name} | {family.qubits} | {family.length} | {ours:,} | {theirs:,} | {ratios[name]:.2f}"
-            f" | {tally['equal']} | {tally['different']} |"
+            f" | {tally['equal']} | {tally['turned']} | {tally['different']} |"
         )
         print(lines[-1], flush=True)
     most = max(ratios, key=ratios.get)

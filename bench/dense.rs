@@ -1,6 +1,6 @@
 // The comparison of two small blocks by exact columns in plain Rust, for comparison of speed alone: one column of each list at a time, an
 // amplitude as four numbers, one-qubit matrices from a table, and all eight powers of ω tried until none is left. It reads two accepted
-// records from standard input, the second directly after the first, and prints the verdict and its inputs; it makes no checks.
+// records from standard input, the second directly after the first, and prints the verdict and its two numbers; it makes no checks.
 use std::io::Read;
 
 // a + bω + cω² + dω³
@@ -89,8 +89,8 @@ fn h_gates(gates: &[u8]) -> usize {
     gates.chunks_exact(3).filter(|g| g[0] == 7).count()
 }
 
-// The first input at which no power fits all columns up to it, if any.
-fn first_misfit(n: usize, first: &[u8], second: &[u8]) -> Option<usize> {
+// The power that fits all columns, or the first input at which none fits those up to it.
+fn power_of(n: usize, first: &[u8], second: &[u8]) -> Result<u8, usize> {
     let (h1, h2) = (h_gates(first), h_gates(second));
     let mut left = vec![[0; 4]; 1 << n];
     let mut right = vec![[0; 4]; 1 << n];
@@ -100,18 +100,19 @@ fn first_misfit(n: usize, first: &[u8], second: &[u8]) -> Option<usize> {
         run(&mut right, second, v, h1);
         powers.retain(|&j| left.iter().zip(&right).all(|(x, y)| times(j, *x) == *y));
         if powers.is_empty() {
-            return Some(v);
+            return Err(v);
         }
     }
-    None
+    Ok(powers[0])
 }
 
 fn main() {
     let mut input = Vec::new();
     std::io::stdin().read_to_end(&mut input).unwrap();
     let size = 5 + 3 * (input[3] as usize + 256 * input[4] as usize);
-    match first_misfit(input[2] as usize, &input[5..size], &input[size + 5..]) {
-        Some(v) => println!("different 0 {v}"),
-        None => println!("equal 0 0"),
+    match power_of(input[2] as usize, &input[5..size], &input[size + 5..]) {
+        Ok(0) => println!("equal 0 0"),
+        Ok(power) => println!("turned {power} 0"),
+        Err(v) => println!("different 0 {v}"),
     }
 }

@@ -230,9 +230,11 @@ fn compare(s: &mut Sum) {
     if c.pins != c.sums {
         return say("different", 0, 0, &c, 0);
     }
-    match s.search() {
-        0 => say("equal", 0, 0, &c, 0),
-        x => say("different", 0, x, &c, 0),
+    let power = (8 - s.constant) % 8;
+    match (s.search(), power) {
+        (0, 0) => say("equal", 0, 0, &c, 0),
+        (0, _) => say("turned", power as u64, 0, &c, 0),
+        (x, _) => say("different", 0, x, &c, 0),
     }
 }
 

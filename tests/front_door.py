@@ -794,7 +794,8 @@ def examples():
     """Every row of the examples' table, and each record beside its text."""
     with open(os.path.join(ROOT, "examples", "README.md"), encoding="utf-8") as file:
         rows = re.findall(r"^\| `\./(compare|compare_small) (\S+) (\S+)` \| `(.*)` \| (\d+) \|$", file.read(), re.M)
-    check("examples, rows of the table", [row[0] for row in rows], ["compare"] * 6 + ["compare_small"])
+    check("examples, rows of the table", [row[0] for row in rows], ["compare"] * 10 + ["compare_small"] * 2)
+    check("examples, every status that tells a verdict", {int(row[4]) for row in rows}, set(WORDS.values()))
     for name, first, second, line, status in rows:
         got = run([os.path.join(ROOT, name), first, second], cwd=ROOT)
         check(f"examples, {name} {first} {second}", got, (int(status), f"{line}\n".encode(), ""))
@@ -804,7 +805,7 @@ def examples():
     told = tuple(word for found in told if found for word in found.groups())
     holds("examples, README's pair and line", ("compare", *told) in [row[:4] for row in rows], told)
     records = sorted(f for f in os.listdir(os.path.join(ROOT, "examples")) if f.endswith(".gates"))
-    check("examples, records", len(records), 8)
+    check("examples, records", len(records), 13)
     for name in records:
         with open(os.path.join(ROOT, "examples", name), "rb") as file:
             data = file.read()
