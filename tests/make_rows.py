@@ -17,8 +17,8 @@ import reference as ref
 
 HERE = os.path.dirname(os.path.abspath(__file__))
 CRATES = os.path.join(HERE, "..", "crates")
-# all columns are tried up to so many qubits, some on more where both lists have so many H gates at most
-ALL_COLUMNS, FEW_HADAMARDS = 6, 10
+# all columns are tried up to so many qubits; some on more, where the H gates are on so many qubits at most
+ALL_COLUMNS, WITH_H = 6, 8
 
 
 def repeated(text):
@@ -50,13 +50,13 @@ def expected(number, row, answer):
 
 def held_to_columns(number, row, answer):
     """Whether an answer is a verdict that was held to columns, which must bear it out. On more than 6 qubits equal and turned are held to those
-    of input 0, of each qubit alone and of all of them, and lists with many H gates to none."""
+    of input 0, of each qubit alone and of all of them, and lists with H gates on many qubits to none."""
     verdict = re.match(r"(equal|turned|different) (\d+) (\d+)", answer)
     if not verdict:
         return False
     n, gates, others = ref.read_lists(*call_rows.both_of(*row.split(";")[3:]))
     some = [0, *(1 << q for q in range(n)), (1 << n) - 1] if n > ALL_COLUMNS else None
-    if some and ref.h_gates(gates + others) > FEW_HADAMARDS:
+    if some and len({a for kind, a, _ in gates + others if kind == ref.H}) > WITH_H:
         return False
     if not ref.Columns(n, gates, others).bear_out(verdict[1], int(verdict[2]), int(verdict[3]), some):
         sys.exit(f"rows.txt:{number}: written {answer!r}, but the columns do not bear it out")
