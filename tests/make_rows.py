@@ -50,12 +50,12 @@ def expected(number, row, answer):
 
 def held_to_columns(number, row, answer):
     """Whether an answer is a verdict that was held to columns, which must bear it out. On more than 6 qubits equal and turned are held to those
-    of input 0, of each qubit alone and of all of them, and lists with H gates on many qubits to none."""
+    of no qubit, the lowest, the highest and all of them, and lists with H gates on many qubits to none."""
     verdict = re.match(r"(equal|turned|different) (\d+) (\d+)", answer)
     if not verdict:
         return False
     n, gates, others = ref.read_lists(*call_rows.both_of(*row.split(";")[3:]))
-    some = [0, *(1 << q for q in range(n)), (1 << n) - 1] if n > ALL_COLUMNS else None
+    some = (0, 1, 1 << n - 1, (1 << n) - 1) if n > ALL_COLUMNS else None
     if some and len({a for kind, a, _ in gates + others if kind == ref.H}) > WITH_H:
         return False
     if not ref.Columns(n, gates, others).bear_out(verdict[1], int(verdict[2]), int(verdict[3]), some):
