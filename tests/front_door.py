@@ -502,12 +502,16 @@ def script_failures(room, door):
 def unread_messages(room, door):
     """Nobody reads standard error: the status stays what it is."""
     good, gone = room.file(NOTHING), os.path.join(room.path, "gone")
+    reader, writer = os.pipe()
+    os.close(reader)
+    more = {"stdin": subprocess.DEVNULL, "stderr": writer, "timeout": SECONDS}
     for words, status in (([gone, good], 74), (["/proc/self/mem", good], 74), ([good], 64), (["--x"], 64), ([good, good], 0)):
-        reader, writer = os.pipe()
-        os.close(reader)
-        got = subprocess.run([door.script, *words], stdin=subprocess.DEVNULL, stdout=subprocess.PIPE, stderr=writer, timeout=SECONDS)
-        os.close(writer)
+        got = subprocess.run([door.script, *words], stdout=subprocess.PIPE, **more)
         check(f"script, nobody reads the message, {words}", got.returncode, status)
+    for label, out, _ in unwritable():
+        got = subprocess.run([door.script, good, good], stdout=out, **more)
+        check(f"script, {label}, and nobody reads the message", got.returncode, 74)
+    os.close(writer)
 
 
 def closed_descriptors(room, door):
