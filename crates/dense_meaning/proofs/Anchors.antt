@@ -47,12 +47,12 @@ xz : shown 1 (one X 0 ∷ one Z 0 ∷ []) (one Y 0 ∷ []) ≡ carriedBy 6
 unfolding shown
 xz = refl
 
--- it carries the first list to the second: the lists exchanged, it is 8 less that
+-- it carries the first list to the second: with the lists exchanged, 2 becomes 6
 y-zx : shown 1 (one Y 0 ∷ []) (one Z 0 ∷ one X 0 ∷ []) ≡ carriedBy 6
 unfolding shown
 y-zx = refl
 
--- so with X T twice against nothing, and nothing against it
+-- and 7 becomes 1: X T twice against nothing, and nothing against that
 xtxt : shown 1 (one X 0 ∷ one T 0 ∷ one X 0 ∷ one T 0 ∷ []) [] ≡ carriedBy 7
 unfolding shown
 xtxt = refl
@@ -61,7 +61,7 @@ nothing-xtxt : shown 1 [] (one X 0 ∷ one T 0 ∷ one X 0 ∷ one T 0 ∷ []) �
 unfolding shown
 nothing-xtxt = refl
 
--- ω⁷, the last of the eight: S H three times
+-- ω⁷ too, with H gates: S H three times
 shshsh : shown 1 (one S 0 ∷ one H 0 ∷ one S 0 ∷ one H 0 ∷ one S 0 ∷ one H 0 ∷ []) [] ≡ carriedBy 7
 unfolding shown
 shshsh = refl

@@ -22,7 +22,7 @@ apart : (v j : ℕ) → unfitAt v ≡ carriedBy j → ⊥
 apart v j e = let z : _≡_ {A = ℕ} 0 1 = cc in absurd (omega arith)
 
 module _ (n : ℕ) (first second : List Gate) where
-  -- there is no unfit input exactly where there is such a power: the last input is fit, and so all columns are
+  -- there is no unfit input exactly where some power fits all columns: the last input is fit, and so they all are
   pub one-of-both : (firstUnfit n first second ≡ none) ↔ ((j : ℕ) × (firstPower n first second ≡ some j))
   one-of-both = (
     λ h. go h (firstPower n first second) refl,
@@ -32,8 +32,8 @@ module _ (n : ℕ) (first second : List Gate) where
       last : firstUnfit n first second ≡ none → (j : ℕ) × (j < 8) × Carries n j first second
       last h =
           let size = pow-pos n in
-          let up-to = fit n first second (2 ^ n - 1) .0 (none-below (unfit n first second) (2 ^ n) h (2 ^ n - 1) (omega (arith, size))) in
-          (up-to .0, up-to .1, λ v l. up-to .2 v (omega arith))
+          let (j, small, fits) = fit n first second (2 ^ n - 1) .0 (none-below (unfit n first second) (2 ^ n) h (2 ^ n - 1) (omega arith)) in
+          (j, small, λ v l. fits v (omega arith))
 
       go : firstUnfit n first second ≡ none → (p : Option ℕ) → firstPower n first second ≡ p → (j : ℕ) × (p ≡ some j)
       go h (some j) e = (j, refl)
@@ -41,7 +41,7 @@ module _ (n : ℕ) (first second : List Gate) where
           let (j, small, carries) = last h in
           absurd (false≢true (sym (none-below (fitsAll n first second) 8 e j small) ∙ fits-below n first second (2 ^ n) j .1 carries))
 
-  -- what is found is that power
+  -- what is found is the first such power
   power-found : (j : ℕ) → finding n first second ≡ carriedBy j → firstPower n first second ≡ some j
   power-found j h = go (firstUnfit n first second) (firstPower n first second) h
     where
@@ -50,7 +50,7 @@ module _ (n : ℕ) (first second : List Gate) where
       go none none e = absurd (apart 0 j e)
       go (some v) p e = absurd (apart v j e)
 
-  -- or the unfit input
+  -- or the first unfit input
   input-shown : (v : ℕ) → finding n first second ≡ unfitAt v → firstUnfit n first second ≡ some v
   input-shown v h = go (firstUnfit n first second) (firstPower n first second) (one-of-both .0) h
     where
@@ -58,9 +58,12 @@ module _ (n : ℕ) (first second : List Gate) where
       go none p other e = let (j, is) = other refl in absurd (apart v j (cc))
       go (some u) p other e = cc
 
-  -- the power found is the one that carries the pair
+  -- the power found is the one that carries the pair: no other does
   pub found-if-carried : AllWithin n first → AllWithin n second → FoundIfCarried n first second
-  found-if-carried l r j = (λ h. power-carries n first second j (power-found j h), λ (small, carries). fit-everywhere n first second l r j small carries)
+  found-if-carried l r j = (
+    λ h. power-carries n first second j (power-found j h),
+    λ (small, carries). fit-everywhere n first second l r j small carries,
+  )
 
   -- up to the input shown no power fits, and up to every smaller one some power does
   pub shown-is-first : ShownIsFirst n first second

@@ -67,7 +67,7 @@ module _ (n : ℕ) (first second : List Gate) where
   -- no input is unfit where a power fits every column
   pub none-shown : (j : ℕ) → j < 8 → Carries n j first second → firstUnfit n first second ≡ none
   none-shown j small carries =
-      below-none (unfit n first second) (2 ^ n) (λ v l. fit v .1 (j, small, λ u k. carries u (omega arith)))
+      below-none (unfit n first second) _ (λ v l. fit v .1 (j, small, λ u k. carries u (omega arith)))
 
   -- what the code finds: no power fits column 0
   pub unfit-at-once : ((j : ℕ) → j < 8 → Fits n j first second 0 → ⊥) → finding n first second ≡ unfitAt 0

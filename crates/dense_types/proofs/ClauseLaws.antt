@@ -60,20 +60,20 @@ module _ (n : ℕ) (first second : List Gate) (l : AllWithin n first) (r : AllWi
   -- the verdict says exactly what carries the pair
   decided : {x : Finding} → Ends n first second x → DecidedBy n first second (found x .verdict) (found x .first)
   decided (carried {j} small carries) =
-      decided-by n first second (one-power n first second l r) (agreement j) j
+      decided-by n first second (one-power n first second l r) _ _
       (λ h. rw (of-power j h) at carries) (λ h. ((of-power j h, small), carries)) (λ h. absurd (of-power j h)) (of-power j)
   decided (shown {v} e) =
-      decided-by n first second (one-power n first second l r) different 0
+      decided-by n first second (one-power n first second l r) _ _
       (λ h. absurd (omega (arith, ap number h))) (λ h. absurd (omega (arith, ap number h))) (λ h. not-carried v e) (λ h. omega (arith, ap number h))
 
   -- and what is shown with it is right
-  sound : {x : Finding} → Ends n first second x → ShownApart n first second (found x)
-  sound (carried {j} small carries) h = absurd (of-power j h)
-  sound (shown {v} e) h = let (inside, none-fits) = shown-is-unfit n first second l r v e in (pow-pos n, inside, none-fits)
-
   first-shown : {x : Finding} → Ends n first second x → ShownFirst n first second (found x)
   first-shown (carried {j} small carries) h = absurd (of-power j h)
   first-shown (shown {v} e) h = let (none-fits, before) = shown-is-first n first second v e in (refl, none-fits, before)
+
+  sound : {x : Finding} → Ends n first second x → ShownApart n first second (found x)
+  sound (carried {j} small carries) h = absurd (of-power j h)
+  sound (shown {v} e) h = let (inside, none-fits) = shown-is-unfit n first second l r v e in (pow-pos n, inside, none-fits)
 
   inputs : {x : Finding} → Ends n first second x → ShownAsSaid n first second (found x)
   inputs (carried {j} small carries) = (λ h. (of-power j h, refl), λ h. refl)
