@@ -234,14 +234,16 @@ module _ (n : ℕ) (first second : List Gate) (l : AllWithin n first) (r : AllWi
     λ h. judged-turned (rw h at (reason shown)),
   )
 
-  -- where every odd coefficient of the pinned sum is on inputs alone, the verdict is not undecided, and so says what carries the pair
-  decided : OddIn (InputsOnly n) (pinnedOf 0 n first second .sum .phase .terms) → Decided n first second (compare 0 n first second)
-  decided even =
-      decided-by n first second one-power _ _ equal-is-right turned-is-right refuted
-      (λ h. judged-decided (rw h at (reason shown)) (reduced-even ends (pin-end 0 n first second l r .good) even))
+  -- a verdict that is not undecided says exactly what carries the pair
+  pub decided-unless : (compare 0 n first second .verdict ≡ undecided → ⊥) → Decided n first second (compare 0 n first second)
+  decided-unless = decided-by n first second one-power _ _ equal-is-right turned-is-right refuted
     where
       refuted : compare 0 n first second .verdict ≡ different → SomePower n first second → ⊥
       refuted h power = let no = different-is-right h in no .2 (power .0) (power .2 _ (no .0)) (power .2 _ (no .1))
+
+  -- where every odd coefficient of the pinned sum is on inputs alone, it is not
+  decided : OddIn (InputsOnly n) (pinnedOf 0 n first second .sum .phase .terms) → Decided n first second (compare 0 n first second)
+  decided even = decided-unless (λ h. judged-decided (rw h at (reason shown)) (reduced-even ends (pin-end 0 n first second l r .good) even))
 
   -- so it is where no path variable is in a term of odd coefficient after pinning
   pub even-is-decided : EvenIsDecided n first second (compare 0 n first second)

@@ -11,8 +11,8 @@ use Rattle.record_format.proofs.Rows.{none-holds}
 use Rattle.record_format.proofs.Theorems.{passed, accepted-is-sound}
 use Rattle.amplitude.specs.Circuit.{Carries}
 use Rattle.comparison_meaning.specs.Verdict.{Verdict, Result, equal, different, undecided, turned, number, agreement, compare}
-use Rattle.comparison_meaning.specs.Demands.{SomePower, DecidedBy, Decided}
-use Rattle.comparison_meaning.proofs.Theorems.{decided-by, one-power, equal-is-right, turned-is-right, different-is-right}
+use Rattle.comparison_meaning.specs.Demands.{SomePower, DecidedBy}
+use Rattle.comparison_meaning.proofs.Theorems.{decided-by, one-power, decided-unless}
 use Rattle.comparison_types.specs.Call as pair
 use Rattle.comparison_types.proofs.Theorems.{first-accepted, second-accepted, same-qubits, pair-accepted-by-no-row}
 use Rattle.comparison_types.specs.Promises.{pairTable}
@@ -79,15 +79,6 @@ module _ (n : ℕ) (first second : List Gate) (l : AllWithin n first) (r : AllWi
   inputs (carried {j} small carries) = (λ h. (of-power j h, refl), λ h. refl)
   inputs (shown e) = (λ h. absurd (omega (arith, ap number h)), λ h. absurd (omega (arith, ap number h)))
 
-  -- a verdict of the path sums that is not undecided says exactly what carries the pair
-  path-sums-decide : (compare 0 n first second .verdict ≡ undecided → ⊥) → Decided n first second (compare 0 n first second)
-  path-sums-decide =
-      decided-by n first second (one-power n first second l r) _ _
-      (equal-is-right n first second l r) (turned-is-right n first second l r) apart
-    where
-      apart : compare 0 n first second .verdict ≡ different → SomePower n first second → ⊥
-      apart h (j, small, carries) = let (a, b, none-fits) = different-is-right n first second l r h in none-fits j (carries _ a) (carries _ b)
-
   -- two verdicts that say so are the same, and where that is turned with the same power
   same-verdict :
       (v w : Verdict) (a b : ℕ)
@@ -101,7 +92,7 @@ module _ (n : ℕ) (first second : List Gate) (l : AllWithin n first) (r : AllWi
 
   -- so that of the columns is that of the path sums
   agrees : (compare 0 n first second .verdict ≡ undecided → ⊥) → SameVerdict (compareColumns n first second) (compare 0 n first second)
-  agrees decides = same-verdict _ _ _ _ (decided ends) (path-sums-decide decides)
+  agrees decides = same-verdict _ _ _ _ (decided ends) (decided-unless n first second l r decides)
 
 -- an accepted record is within its qubits, and n and its gates are its own
 own : (s : List ℕ) (n : ℕ) (gs : List Gate) → read s ≡ accepted n gs → (qubits s ≡ n) × (gates s ≡ gs) × AllWithin n gs

@@ -112,7 +112,12 @@ pub verdicts-read :
 unfolding readReport first
 verdicts-read = (refl, (refl, refl))
 
--- and so they are written
+-- twelve bytes with the mark of a list are no report
+pub other-report-mark : readReport (listMark ++ 0 ∷ 0 ∷ 0 ∷ 0 ∷ 0 ∷ 0 ∷ 0 ∷ 0 ∷ 0 ∷ 0 ∷ []) ≡ refuses (fault 2)
+unfolding readReport first
+other-report-mark = refl
+
+-- verdict 3 is written into a report, and 4 is refused by 5
 pub verdicts-written :
     (writeReport (report 3) (reportBytes (report 0)) .answer ≡ gives (12 ∷ []))
     × (writeReport (report 4) (reportBytes (report 0)) .answer ≡ refuses (fault 5))
