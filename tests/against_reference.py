@@ -111,7 +111,7 @@ class Check:
         self.see(f"rows of {name}")
 
     def run_program(self, data, want=None, name="compare"):
-        """A program on these bytes, held to the independent implementation and to the given line."""
+        """A program on these bytes, held to the independent implementation and to the given line. Gives the line's words."""
         line = PROGRAM_LINES[name](data)
         done = subprocess.run([program(name)], input=data, capture_output=True)
         if done.returncode < 0 or done.stdout.decode() != line + "\n":
@@ -220,14 +220,14 @@ def ending(events):
 
 def choice(gates, others, which, events):
     """Why the pick chose what it did."""
-    verdict, fewer_t, fewer = ending(events), ref.t_gates(gates) - ref.t_gates(others), len(gates) - len(others)
+    verdict, more_t, more = ending(events), ref.t_gates(gates) - ref.t_gates(others), len(gates) - len(others)
     if verdict.startswith("turned"):
-        if fewer_t > 0:
+        if more_t > 0:
             return f"{which}, {verdict}, though the second has fewer T gates"
-        return f"{which}, turned" + (", though the second has fewer gates" if fewer_t == 0 < fewer else "")
+        return f"{which}, turned" + (", though the second has fewer gates" if more_t == 0 < more else "")
     if verdict != "equal":
         return f"{which}, {verdict}"
-    return f"{which}, {'fewer T gates' if fewer_t else 'fewer gates' if fewer else 'a tie'}"
+    return f"{which}, {'fewer T gates' if more_t else 'fewer gates' if more else 'a tie'}"
 
 
 def see_kinds(check, gates, others):
@@ -320,7 +320,7 @@ def random_pair_row(check, rng, call, families=pairs.FAMILIES):
 
 
 def dense_row(check, numbers, first, second):
-    """A row of the dense comparison. Gives the verdict and its inputs, or the number of the refusal."""
+    """A row of the dense comparison. Gives the verdict and its two numbers, or the number of the refusal."""
     answer, _ = check.row(row("", "dense", numbers, first, second)[1:])
     a, b = lent_bytes(first, second)
     refusal = refusal_of(ref.read_small, a, b, numbers[0])
@@ -415,10 +415,10 @@ def fixed_small_rows(check):
 
 
 def agree(check, call, here, there, what):
-    """What the dense comparison and the path sum found of one small block; fails where the path sum decides and the verdicts, or the powers, differ."""
+    """What the dense comparison and the path sum found of one small block; fails where the latter decides and verdict or power differ."""
     if there[0] == "undecided":
         check.see(f"{call}: undecided there, {here[0]} here")
-    elif named(here) != named(there) or here[0] != "different" and here[:3] != there[:3]:
+    elif here[0] != there[0] or here[0] != "different" and here[:3] != there[:3]:
         fail(f"{' '.join(here)} by the dense comparison, {' '.join(there)} by the path sum: {what}")
     else:
         check.see(f"{call}: both {named(here)}")
