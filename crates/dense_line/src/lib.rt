@@ -1,8 +1,9 @@
 // The line that the program of the dense comparison prints: the verdict's word and its two inputs, or `refused` and the number, as bytes at
 // the front of a lent buffer. write_answer has no `requires`.
-ghost use Rattle.dense_types.specs.Call.{foundOf, says};
+ghost use Rattle.dense_types.specs.Call.{foundOf, saidOf, says};
 ghost use Rattle.line_bytes.specs.Line.{AtFront};
-ghost use Rattle.dense_line.specs.Line.{lineOf, programLine};
+ghost use Rattle.dense_line.specs.Line.{lineOf};
+ghost use Rattle.dense_line.specs.Inner.{programLine};
 use dense_types::Answer;
 use dense_types::Outcome;
 use line_bytes::LINE_SIZE;
@@ -23,7 +24,7 @@ fn write_outcome(o: Outcome, line: &mut [u8; LINE_SIZE]) -> usize
 // The line of what the dense comparison answered, or of number 12 where bytes follow one of the records. Returns the line's length; the
 // bytes behind it stay as they were.
 pub fn write_answer(answer: Answer, follow: bool, line: &mut [u8; LINE_SIZE]) -> usize
-    ensures { λ r. ⌜ AtFront (programLine follow answer) (now (line .entry)) r (now (line .exit)) ⌝ }
+    ensures { λ r. ⌜ AtFront (programLine follow (saidOf answer)) (now (line .entry)) r (now (line .exit)) ⌝ }
 {
     match answer {
         Answer::Compared(outcome) => {

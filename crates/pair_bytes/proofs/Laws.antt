@@ -1,81 +1,131 @@
--- Laws of the bytes of a pair: where others follow a record, and that no buffer's limit hides them.
+-- Laws of the program's table: it goes by the two readings and by whether bytes follow, it is the comparison's with 12 in its place, and what
+-- a program reads of its input tells as much as the whole.
 -- Assumes nothing.
-use Prim.Native.Nat.{ℕ, _+_, _*_, _-_, _≤_, _<_}
+use Prim.Native.Nat.{ℕ}
 use mathlib.Core.Path.{_≡_, refl, sym, ap, _∙_}
-use mathlib.Core.Bool.{Bool, true, false}
-use mathlib.Core.List.{List}
+use mathlib.Core.Bool.{Bool, true, false, cond, _||_}
+use mathlib.Core.Option.{Option, none, some, Option·map}
+use mathlib.Core.List.{List, [], _∷_, _++_, map}
+use lib.ListN.{take}
 use native.Mathlib.Omega.{arith}
-use lib.Dec.{ltb}
-use lib.ListN.{length, take, drop, length-take}
-use lib.Seq.{getD-take, length-take-le, take-take, take-all, take-add, drop-at}
-use borrow.Author.Tests.{ltb-true, ltb-false, lt-ltb, le-ltb}
-use Rattle.record_format.specs.Format.{mostGates}
-use Rattle.record_format.specs.Reading.{count, size}
-use Rattle.pair_bytes.specs.Pair.{inputSize, streamSize, goesOn, ownSize, firstOf, secondOf}
+use Rattle.record_format.specs.Gate.{Gate}
+use Rattle.record_format.specs.Row.{Fault, Row, told, first}
+use Rattle.record_format.specs.Reading.{Reading, qubits, gates, recordRows, accepted, refused, unless, read}
+use Rattle.record_format.proofs.Rows.{first-none, first-some, first-told, AllFaults, first-is}
+use Rattle.record_format.proofs.Theorems.{passed}
+use Rattle.comparison_types.specs.Call.{PairFault, inFirst, inSecond, ofPair, numberIn, pairRow, pairRows, pairFault}
+use Rattle.line_bytes.specs.Line.{refusedLine}
+use Rattle.pair_bytes.specs.Pair.{follow, firstOf, secondOf}
+use Rattle.pair_bytes.specs.Table.{programTable, unlessRefused}
+use Rattle.pair_bytes.specs.Limits.{inputSize, streamSize, ReadFarEnough}
+use Rattle.pair_bytes.specs.Inner.{wereRead, withTwelve}
+use Rattle.pair_bytes.proofs.Cutting.{Tells, tells-itself, tells-cut, read-first, stream-cut}
 
--- two tests of an order that hold and fail together
-same-test : (a b c d : ℕ) → (a < b → c < d) → (b ≤ a → d ≤ c) → ltb a b ≡ ltb c d
-same-test a b c d f g = go (ltb a b) refl
+-- the first row that holds, by what reading the two lists finds and by whether bytes follow
+abbrev tableBy : Bool → Reading → Reading → List (Row PairFault) → Option PairFault
+tableBy b (refused f) q below = some (inFirst f)
+tableBy b (accepted n gs) (refused f) below = some (inSecond f)
+tableBy b (accepted n gs) (accepted m hs) below = first (pairRow 12 b ∷ (pairRows n m gs hs ++ below))
+
+module _ (s t : List ℕ) (below : List (Row PairFault)) where
+  -- the rows of the first list
+  abbrev ofFirst : List (Row PairFault)
+  ofFirst = map (told inFirst) (recordRows s)
+
+  -- those of the second
+  abbrev ofSecond : List (Row PairFault)
+  ofSecond = map (told inSecond) (recordRows t)
+
+  -- and those under them
+  abbrev under : List (Row PairFault)
+  under = pairRow 12 (follow s t) ∷ (pairRows (qubits s) (qubits t) (gates s) (gates t) ++ below)
+
+  -- the program's table goes by these
+  by-readings : first (programTable s t below) ≡ tableBy (follow s t) (read s) (read t) below
+  unfolding read
+  by-readings = go (first (recordRows s)) (first (recordRows t)) (first-told inFirst (recordRows s)) (first-told inSecond (recordRows t))
+    where
+      go : (o p : Option Fault) → first ofFirst ≡ Option·map inFirst o → first ofSecond ≡ Option·map inSecond p
+          → first (programTable s t below)
+          ≡ tableBy (follow s t) (unless o (accepted (qubits s) (gates s))) (unless p (accepted (qubits t) (gates t))) below
+      go (some f) p e d = first-some (ofFirst ++ ofSecond) under (inFirst f) (first-some ofFirst ofSecond (inFirst f) e)
+      go none (some f) e d = first-some (ofFirst ++ ofSecond) under (inSecond f) (first-none ofFirst ofSecond e ∙ d)
+      go none none e d = first-none (ofFirst ++ ofSecond) under (first-none ofFirst ofSecond e ∙ d)
+
+-- 12 above rows of pairs alone
+twelve-above : (b : Bool) (rows : List (Row PairFault)) → AllFaults (λ f. wereRead f ≡ true) rows
+    → first (pairRow 12 b ∷ rows) ≡ withTwelve b (first rows)
+unfolding first
+twelve-above b rows all = go b (first rows) (λ f e. first-is (λ f. wereRead f ≡ true) rows f all e)
   where
-    go : (t : Bool) → ltb a b ≡ t → ltb a b ≡ ltb c d
-    go true e = e ∙ sym (lt-ltb c d (f (ltb-true a b e)))
-    go false e = e ∙ sym (le-ltb c d (g (ltb-false a b e)))
+    go : (b : Bool) (o : Option PairFault) → ((f : PairFault) → o ≡ some f → wereRead f ≡ true)
+        → cond b (some (ofPair 12)) o ≡ withTwelve b o
+    go b none pairs = refl
+    go true (some f) pairs = rw (pairs f refl) refl
+    go false (some f) pairs = rw (pairs f refl) refl
 
--- a record's own bytes are fewer than all where others follow
-pub own-is-less : (s : List ℕ) → ltb (ownSize s) (length s) ≡ goesOn s
-own-is-less s = same-test (ownSize s) (length s) (size (count s)) (length s) (λ l. omega arith) (λ l. omega arith)
-
--- the bytes of the longest record, and one more
-pub input-size : inputSize ≡ size mostGates + 1
-input-size = refl
-
--- a head is told by the first five bytes
-same-count : (k : ℕ) (s : List ℕ) → 5 ≤ k → count (take k s) ≡ count s
-same-count k s enough = rw (getD-take k s 3 0 (omega arith), getD-take k s 4 0 (omega arith)) refl
-
--- the bytes that matter tell whether others follow, unless the head says too many gates, and then the list is refused by number 4 at the
--- latest
-pub seen-in-time : (s : List ℕ) → count s ≤ mostGates → goesOn (take inputSize s) ≡ goesOn s
-seen-in-time s few =
-    let same = same-count inputSize s (omega arith) in
-    let cut = length-take inputSize s in
-    same-test
-    (size (count (take inputSize s)))
-    (length (take inputSize s))
-    (size (count s))
-    (length s)
-    (λ l. omega arith)
-    (λ l. omega arith)
-
--- the bytes of two longest records, and one more
-pub stream-size : streamSize ≡ 2 * size mostGates + 1
-stream-size = refl
-
--- what stands behind n of the first bytes
-drop-take : (n k : ℕ) (s : List ℕ) → n ≤ k → n ≤ length s → drop n (take k s) ≡ take (k - n) (drop n s)
-drop-take n k s less inside =
-    let sum : k ≡ n + (k - n) = omega arith in
-    ap (λ (m : ℕ). drop n (take m s)) sum
-    ∙ (ap (drop n) (take-add n (k - n) s) ∙ drop-at (take n s) (take (k - n) (drop n s)) n (length-take-le n s inside))
-
--- the bytes of a stream that matter give the same two inputs as all of them, unless the first head says too many gates
-pub stream-in-time :
-    (s : List ℕ) → count s ≤ mostGates → (firstOf (take streamSize s) ≡ firstOf s) × (secondOf (take streamSize s) ≡ secondOf s)
-stream-in-time s few = go (ltb (length s) (size (count s))) refl
+-- the first row of the program's table that holds is the fault that the comparison's checks find, with 12 in its place
+pub twelve-in-place : (s t : List ℕ) (below : List (Row PairFault)) → AllFaults (λ f. wereRead f ≡ true) below
+    → first (programTable s t below) ≡ withTwelve (follow s t) (pairFault (read s) (read t) below)
+twelve-in-place s t below all = by-readings s t below ∙ go (follow s t) (read s) (read t)
   where
-    go : (t : Bool) → ltb (length s) (size (count s)) ≡ t → (firstOf (take streamSize s) ≡ firstOf s) × (secondOf (take streamSize s) ≡ secondOf s)
-    go true e =
-        let cut = ltb-true (length s) (size (count s)) e in
-        let all : take streamSize s ≡ s = take-all streamSize s (omega arith) in (ap firstOf all, ap secondOf all)
-    go false e =
-        let whole = ltb-false (length s) (size (count s)) e in
-        let n = size (count s) in
-        let same = same-count streamSize s (omega arith) in
-        let long = length-take streamSize s in
-        let own : ownSize s ≡ n = omega arith in
-        let own′ : ownSize (take streamSize s) ≡ n = omega arith in
-        let front : take n (take streamSize s) ≡ take n s = take-take n streamSize s (omega arith) in
-        let behind : drop n (take streamSize s) ≡ take (streamSize - n) (drop n s) = drop-take n streamSize s (omega arith) whole in (
-          rw (own, own′) (ap (take inputSize) front),
-          rw (own, own′) (ap (take inputSize) behind ∙ take-take inputSize (streamSize - n) (drop n s) (omega arith)),
-        )
+    go : (b : Bool) (p q : Reading) → tableBy b p q below ≡ withTwelve b (pairFault p q below)
+    go b (refused f) q = unfold pairFault in refl
+    go b (accepted n gs) (refused f) = unfold pairFault in refl
+    go b (accepted n gs) (accepted m hs) = unfold pairFault in twelve-above b (pairRows n m gs hs ++ below) (refl, (refl, all))
+
+-- a program with these rows below the pair's, and this line for a pair that passes
+module _ (below : ℕ → List Gate → List Gate → List (Row PairFault)) (line : ℕ → List Gate → List Gate → List ℕ) where
+  -- what it prints
+  abbrev printed : List ℕ → List ℕ → List ℕ
+  printed s t =
+      unlessRefused (first (programTable s t (below (qubits s) (gates s) (gates t)))) (line (qubits s) (gates s) (gates t))
+
+  -- the same by what reading the two lists finds and by whether bytes follow
+  abbrev printedBy : Bool → Reading → Reading → List ℕ
+  printedBy b (refused f) q = refusedLine (f .number)
+  printedBy b (accepted n gs) (refused f) = refusedLine (f .number)
+  printedBy b (accepted n gs) (accepted m hs) = unlessRefused (first (pairRow 12 b ∷ (pairRows n m gs hs ++ below n gs hs))) (line n gs hs)
+
+  printed-is : (s t : List ℕ) → printed s t ≡ printedBy (follow s t) (read s) (read t)
+  printed-is s t = rw (by-readings s t (below (qubits s) (gates s) (gates t))) (go (read s) refl (read t) refl)
+    where
+      go : (p : Reading) → read s ≡ p → (q : Reading) → read t ≡ q
+          → unlessRefused (tableBy (follow s t) p q (below (qubits s) (gates s) (gates t))) (line (qubits s) (gates s) (gates t))
+          ≡ printedBy (follow s t) p q
+      go (refused f) e q d = refl
+      go (accepted n gs) e (refused f) d = refl
+      go (accepted n gs) e (accepted m hs) d =
+          let (_, same-n, same-gs) = passed s n gs e in
+          let (_, _, same-hs) = passed t m hs d in
+          rw (same-n, same-gs, same-hs) refl
+
+  -- bytes that tell all that matters print the same
+  told-same : {s′ s t′ t : List ℕ} → Tells s′ s → Tells t′ t → printed s′ t′ ≡ printed s t
+  told-same {s′} {s} {t′} {t} one other =
+      printed-is s′ t′ ∙ rw (one .reads, other .reads) (go (read s) refl (read t) refl) ∙ sym (printed-is s t)
+    where
+      go : (p : Reading) → read s ≡ p → (q : Reading) → read t ≡ q → printedBy (follow s′ t′) p q ≡ printedBy (follow s t) p q
+      go (refused f) e q d = refl
+      go (accepted n gs) e (refused f) d = refl
+      go (accepted n gs) e (accepted m hs) d = rw (one .goes e, other .goes d) refl
+
+  -- what is read of a stream prints what the whole would
+  stream-enough : (s : List ℕ) → printed (firstOf (take streamSize s)) (secondOf (take streamSize s)) ≡ printed (firstOf s) (secondOf s)
+  stream-enough s = go (read s) refl
+    where
+      same : read (firstOf (take streamSize s)) ≡ read (firstOf s)
+      same = read-first (take streamSize s) ∙ tells-cut streamSize s (omega arith) .reads ∙ sym (read-first s)
+
+      go : (p : Reading) → read s ≡ p → printed (firstOf (take streamSize s)) (secondOf (take streamSize s)) ≡ printed (firstOf s) (secondOf s)
+      go (refused f) e =
+          printed-is _ _ ∙ rw (same, read-first s, e) refl ∙ sym (printed-is (firstOf s) (secondOf s))
+      go (accepted n gs) e = let (one, other) = stream-cut s e in rw one (told-same (tells-itself (firstOf s)) other)
+
+  -- a program reads far enough
+  pub far-enough : ReadFarEnough printed
+  far-enough =
+      record {
+        files = λ s t. told-same (tells-cut inputSize s (omega arith)) (tells-cut inputSize t (omega arith));
+        stream = stream-enough;
+      }

@@ -3,16 +3,16 @@
 use mathlib.Core.Path.{_≡_, refl}
 use mathlib.Core.List.{[], _∷_}
 use lib.ListN.{length}
-use Rattle.comparison_meaning.specs.Verdict.{equal, different, undecided}
+use Rattle.comparison_meaning.specs.Verdict.{turned, different, undecided}
 use Rattle.record_format.specs.Row.{fault, faultAt}
 use Rattle.comparison_types.specs.Call.{inFirst, inSecond, says, refuses}
 use Rattle.line_bytes.specs.Line.{digits, fields, refusedLine}
 use Rattle.result_line.specs.Line.{lineOf}
 
--- document 01's example: `equal 0 0 1 1 1 0 0` and a newline
+-- document 01's example, since document 02's item 4: `turned 7 0 1 1 1 0 0` and a newline
 pub example-line :
-    lineOf (says (record { verdict = equal; first = 0; second = 0; pins = 1; sums = 1; turns = 1; joins = 0; left = 0 }))
-    ≡ 101 ∷ 113 ∷ 117 ∷ 97 ∷ 108 ∷ 32 ∷ 48 ∷ 32 ∷ 48 ∷ 32 ∷ 49 ∷ 32 ∷ 49 ∷ 32 ∷ 49 ∷ 32 ∷ 48 ∷ 32 ∷ 48 ∷ 10 ∷ []
+    lineOf (says (record { verdict = turned; first = 7; second = 0; pins = 1; sums = 1; turns = 1; joins = 0; left = 0 }))
+    ≡ 116 ∷ 117 ∷ 114 ∷ 110 ∷ 101 ∷ 100 ∷ 32 ∷ 55 ∷ 32 ∷ 48 ∷ 32 ∷ 49 ∷ 32 ∷ 49 ∷ 32 ∷ 49 ∷ 32 ∷ 48 ∷ 32 ∷ 48 ∷ 10 ∷ []
 unfolding digits fields
 example-line = refl
 

@@ -1,13 +1,18 @@
--- A law of the program's line.
+-- A law of the line.
 -- Assumes nothing.
 use mathlib.Core.Path.{_≡_, refl}
-use mathlib.Core.Bool.{false}
-use Rattle.comparison_types.specs.Call.{saidOf}
-use Rattle.comparison_types.specs.declared.Answer.{Answer}
-use Rattle.comparison_types.specs.declared.Answer.the-variants.{Compared, Refused}
-use Rattle.result_line.specs.Line.{lineOf, programLine}
+use mathlib.Core.Bool.{Bool, true, false}
+use mathlib.Core.Option.{Option, none, some}
+use Rattle.comparison_meaning.specs.Verdict.{Result}
+use Rattle.comparison_types.specs.Call.{PairFault, says, unlessFault}
+use Rattle.pair_bytes.specs.Table.{unlessRefused}
+use Rattle.pair_bytes.specs.Inner.{withTwelve}
+use Rattle.result_line.specs.Line.{lineOf}
+use Rattle.result_line.specs.Inner.{programLine}
 
--- where no bytes follow a record, the line is that of what the comparison says
-pub nothing-behind : (a : Answer) → programLine false a ≡ lineOf (saidOf a)
-nothing-behind (Compared o) = refl
-nothing-behind (Refused r) = refl
+-- the line of a pair, by the fault that the comparison's checks find, if any
+pub line-by-fault :
+    (b : Bool) (o : Option PairFault) (r : Result) → programLine b (unlessFault o (says r)) ≡ unlessRefused (withTwelve b o) (lineOf (says r))
+line-by-fault b (some f) r = refl
+line-by-fault true none r = refl
+line-by-fault false none r = refl

@@ -1,13 +1,9 @@
 -- The line that the program compare prints, as ASCII bytes: document 01, "Pairs to try" and "Where a call is turned down".
 -- Assumes nothing.
 use Prim.Native.Nat.{ℕ}
-use mathlib.Core.Bool.{Bool, cond}
 use mathlib.Core.List.{List, [], _∷_}
-use Rattle.comparison_types.specs.Call.{Said, says, refuses, numberIn, resultOf}
-use Rattle.comparison_types.specs.declared.Answer.{Answer}
-use Rattle.comparison_types.specs.declared.Answer.the-variants.{Compared, Refused}
+use Rattle.comparison_types.specs.Call.{Said, says, refuses, numberIn}
 use Rattle.line_bytes.specs.Line.{lineWith, refusedLine}
-use Rattle.pair_bytes.specs.Number.{refusedBy}
 use Rattle.verdict_line.specs.Word.{verdictWord}
 
 -- the line of what a comparison says: the verdict, the two inputs and the five counts, or that of the refusal's number; neither the list
@@ -18,9 +14,3 @@ lineOf (says r) =
     (verdictWord (r .verdict))
     (r .first ∷ r .second ∷ r .pins ∷ r .sums ∷ r .turns ∷ r .joins ∷ r .left ∷ [])
 lineOf (refuses f) = refusedLine (numberIn f)
-
--- the line that the program prints: where bytes follow one of the records, number 12 takes its place before an outcome and among the numbers
--- of a refusal; else that of what the comparison says (`nothing-behind` in proofs/Laws.antt)
-abbrev pub programLine : Bool → Answer → List ℕ
-programLine follow (Compared o) = cond follow (refusedLine 12) (lineOf (says (resultOf o)))
-programLine follow (Refused r) = refusedLine (refusedBy follow r)

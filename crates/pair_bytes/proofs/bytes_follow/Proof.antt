@@ -6,7 +6,7 @@ use denote.Ref.{now}
 use borrow.Author.Needs.{needs}
 use borrow.Author.Tests.{lt-ltb, le-ltb}
 use Rattle.pair_bytes.specs.Pair.{goesOn}
-use Rattle.pair_bytes.proofs.Laws.{own-is-less}
+use Rattle.pair_bytes.proofs.Cutting.{own-is-less}
 use Rattle.pair_bytes.proofs.bytes_follow.Statement.{statement}
 use Rattle.pair_bytes.proofs.bytes_follow.Tie as tie
 
