@@ -9,7 +9,7 @@ use mathlib.Core.Option.{Option, none, some}
 use mathlib.Core.List.{List, [], _∷_}
 use native.Mathlib.Omega.{arith}
 use lib.Dec.{ltb}
-use lib.ListN.{length, take, drop, length-take}
+use lib.ListN.{length, take, drop, length-take, length-drop}
 use lib.Seq.{getD-take, length-take-le, take-take, take-all, take-add, drop-at}
 use borrow.Author.Tests.{ltb-true, ltb-false, lt-ltb, le-ltb}
 use Rattle.record_format.specs.Format.{listMark, headSize, gateSize, mostGates}
@@ -40,6 +40,10 @@ drop-take n k s less inside =
     let sum : k ≡ n + (k - n) = omega arith in
     ap (λ (m : ℕ). drop n (take m s)) sum
     ∙ (ap (drop n) (take-add n (k - n) s) ∙ drop-at (take n s) (take (k - n) (drop n s)) n (length-take-le n s inside))
+
+-- all that stands behind n bytes
+pub all-behind : (n : ℕ) (s : List ℕ) → take (length s - n) (drop n s) ≡ drop n s
+all-behind n s = take-all (length s - n) (drop n s) (simp length-drop (omega arith))
 
 -- the rows of the head, up to number 4
 abbrev upper : List ℕ → List (Row Fault)
