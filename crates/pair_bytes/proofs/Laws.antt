@@ -36,10 +36,6 @@ module _ (s t : List ℕ) (below : List (Row PairFault)) where
   abbrev ofSecond : List (Row PairFault)
   ofSecond = map (told inSecond) (recordRows t)
 
-  -- and those under them
-  abbrev under : List (Row PairFault)
-  under = pairRow 12 (follow s t) ∷ (pairRows (qubits s) (qubits t) (gates s) (gates t) ++ below)
-
   -- the program's table goes by these
   by-readings : first (programTable s t below) ≡ tableBy (follow s t) (read s) (read t) below
   unfolding read
@@ -48,9 +44,9 @@ module _ (s t : List ℕ) (below : List (Row PairFault)) where
       go : (o p : Option Fault) → first ofFirst ≡ Option·map inFirst o → first ofSecond ≡ Option·map inSecond p
           → first (programTable s t below)
           ≡ tableBy (follow s t) (unless o (accepted (qubits s) (gates s))) (unless p (accepted (qubits t) (gates t))) below
-      go (some f) p e d = first-some (ofFirst ++ ofSecond) under (inFirst f) (first-some ofFirst ofSecond (inFirst f) e)
-      go none (some f) e d = first-some (ofFirst ++ ofSecond) under (inSecond f) (first-none ofFirst ofSecond e ∙ d)
-      go none none e d = first-none (ofFirst ++ ofSecond) under (first-none ofFirst ofSecond e ∙ d)
+      go (some f) p e d = first-some (ofFirst ++ ofSecond) _ (inFirst f) (first-some ofFirst ofSecond (inFirst f) e)
+      go none (some f) e d = first-some (ofFirst ++ ofSecond) _ (inSecond f) (first-none ofFirst ofSecond e ∙ d)
+      go none none e d = first-none (ofFirst ++ ofSecond) _ (first-none ofFirst ofSecond e ∙ d)
 
 -- 12 above rows of pairs alone
 twelve-above : (b : Bool) (rows : List (Row PairFault)) → AllFaults (λ f. wereRead f ≡ true) rows

@@ -1,61 +1,25 @@
-// A program's two inputs, read into two buffers. With two arguments each names a file. With none both come from standard input, the second
-// record directly after the first. Where they cannot be had, a message on standard error says why, after the program's own name.
+// What the programs read and print. With two arguments each names a file that is exactly one record. With none both records come from standard
+// input, the second directly after the first. Where an input cannot be read or the line cannot be written, a message on standard error says
+// why, after the program's own name.
 mod reading;
 
-ghost use Rattle.pair_input.specs.Within.{Within};
 use libc::STDERR_FILENO;
-use libc::STDIN_FILENO;
-use pair_bytes::INPUT_SIZE;
-use pair_bytes::Pair;
-use pair_bytes::STREAM_SIZE;
-use pair_bytes::split_stream;
+use libc::STDOUT_FILENO;
+pub use reading::INPUT_SIZE;
+pub use reading::Input;
+pub use reading::STREAM_SIZE;
 use reading::fail;
-use reading::read_all;
-use reading::read_argument;
+pub use reading::read_argument;
+pub use reading::read_stream;
 
-// Standard input, as far as it matters: the first record, and what stands behind it.
-fn read_stream(program: &[u8], first: &mut [u8; INPUT_SIZE], second: &mut [u8; INPUT_SIZE]) -> Pair
-    ensures { λ r. ⌜ Within r (now (first .exit)) (now (second .exit)) ⌝ }
-{
-    let mut stream = [0u8; STREAM_SIZE];
-    let input = read_all(STDIN_FILENO, &mut stream);
-    if input.failed {
-        fail(program, b"standard input");
-        return Pair {
-            failed: true,
-            first: 0,
-            second: 0,
-        };
-    }
-    let size = input.size;
-    split_stream(&stream[..size], first, second)
-}
-
-// The files that the two arguments name, as far as they matter.
-fn read_files(program: &[u8], first: &mut [u8; INPUT_SIZE], second: &mut [u8; INPUT_SIZE]) -> Pair
-    ensures { λ r. ⌜ Within r (now (first .exit)) (now (second .exit)) ⌝ }
-{
-    let one = read_argument(program, 1, first);
-    if one.failed {
-        return Pair {
-            failed: true,
-            first: 0,
-            second: 0,
-        };
-    }
-    let two = read_argument(program, 2, second);
-    if two.failed {
-        return Pair {
-            failed: true,
-            first: 0,
-            second: 0,
-        };
-    }
-    Pair {
-        failed: false,
-        first: one.size,
-        second: two.size,
-    }
+// Where a program's two records are, by its arguments.
+pub enum Source {
+    // in standard input
+    Stream,
+    // in the two files that the arguments name
+    Files,
+    // there is another number of arguments
+    Nowhere,
 }
 
 // A message that says how the program is called.
@@ -65,25 +29,22 @@ fn tell_usage(program: &[u8]) {
     io::write_all(STDERR_FILENO, b" [FIRST SECOND]\n");
 }
 
-// The two inputs of a program with this name, of two files or from standard input; where that fails a message is given.
-pub fn read_pair(
-    program: &[u8],
-    first: &mut [u8; INPUT_SIZE],
-    second: &mut [u8; INPUT_SIZE],
-) -> Pair
-    ensures { λ r. ⌜ Within r (now (first .exit)) (now (second .exit)) ⌝ }
-{
+// Where the two records of a program with this name are; a message where they are nowhere.
+pub fn find_source(program: &[u8]) -> Source {
     let arguments = os::arg_count();
     if arguments <= 1 {
-        return read_stream(program, first, second);
+        return Source::Stream;
     }
     if arguments == 3 {
-        return read_files(program, first, second);
+        return Source::Files;
     }
     tell_usage(program);
-    Pair {
-        failed: true,
-        first: 0,
-        second: 0,
+    Source::Nowhere
+}
+
+// A whole line on standard output in one write, or a message.
+pub fn print(program: &[u8], line: &[u8]) {
+    if !io::write_all(STDOUT_FILENO, line) {
+        fail(program, b"standard output");
     }
 }

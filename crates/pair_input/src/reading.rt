@@ -1,8 +1,18 @@
 // Reading a file or standard input: the bytes up to its end or as far as a buffer goes, told apart from a read that failed.
 ghost use Rattle.io.specs.Counts.{Counts};
+ghost use Rattle.pair_bytes.specs.Limits.{inputSize, streamSize};
 ghost use Rattle.pair_input.specs.Turn.{InBuffer};
+ghost use Rattle.pair_input.specs.Limit.{UpTo};
 use libc::EINTR;
 use libc::STDERR_FILENO;
+use libc::STDIN_FILENO;
+
+// The bytes of a file that are read: those of the longest record, 1,541, and one more, which tells that others follow. That a line needs no
+// more is proved of pair_bytes' `inputSize` (`far-enough` in its proofs/Laws.antt).
+pub const INPUT_SIZE: usize = 1542;
+
+// The bytes of a stream that are read: those of two such records, and one more.
+pub const STREAM_SIZE: usize = 3083;
 
 // What was read: how many bytes stand at the start of the buffer, and whether a read failed.
 pub struct Input {
@@ -106,7 +116,7 @@ fn read_file(program: &[u8], name: &[u8], buffer: &mut [u8]) -> Input
 }
 
 // The bytes of the file that an argument names; a message where that fails.
-pub fn read_argument(program: &[u8], place: usize, buffer: &mut [u8]) -> Input
+fn read_named(program: &[u8], place: usize, buffer: &mut [u8]) -> Input
     ensures { λ r. ⌜ Counts (r .size) (now (buffer .exit)) ⌝ }
 {
     let mut name = [0u8; NAME_SIZE];
@@ -119,4 +129,22 @@ pub fn read_argument(program: &[u8], place: usize, buffer: &mut [u8]) -> Input
         };
     }
     read_file(program, &name[..size], buffer)
+}
+
+// The same, as far as it matters.
+pub fn read_argument(program: &[u8], place: usize, buffer: &mut [u8; INPUT_SIZE]) -> Input
+    ensures { λ r. ⌜ UpTo inputSize (r .size) (now (buffer .exit)) ⌝ }
+{
+    read_named(program, place, buffer)
+}
+
+// Standard input, as far as it matters; a message where that fails.
+pub fn read_stream(program: &[u8], stream: &mut [u8; STREAM_SIZE]) -> Input
+    ensures { λ r. ⌜ UpTo streamSize (r .size) (now (stream .exit)) ⌝ }
+{
+    let input = read_all(STDIN_FILENO, stream);
+    if input.failed {
+        fail(program, b"standard input");
+    }
+    input
 }
