@@ -62,7 +62,7 @@ fn put_fields(line: &mut [u8], at: usize, numbers: &[u16]) -> usize
 }
 
 // A word at the front.
-pub fn put_word(line: &mut [u8], word: &[u8]) -> usize
+fn put_word(line: &mut [u8], word: &[u8]) -> usize
     requires { ⌜ length (now word) ≤ length (now line) ⌝ }
     ensures { λ r. ⌜ Wrote 0 (now (word .entry)) (now (line .entry)) r (now (line .exit)) ⌝ }
 {

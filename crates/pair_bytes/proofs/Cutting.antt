@@ -1,5 +1,5 @@
--- A list of bytes cut behind its record: it is read as the whole list is, and where it is cut one byte later or behind that, it tells whether
--- bytes follow.
+-- Bytes of which only the first are there: cut behind its record a list is read as before, and cut at least one byte later it tells whether
+-- bytes follow; and a stream cut behind its two records.
 -- Assumes nothing.
 use Prim.Native.Nat.{ℕ, _+_, _*_, _-_, _≤_, _<_}
 use mathlib.Core.Path.{_≡_, refl, sym, ap, _∙_}
@@ -50,17 +50,19 @@ abbrev upper : List ℕ → List (Row Fault)
 upper s = row 1 (ltb (length s) headSize) ∷ row 2 (not (marked listMark s)) ∷ row 3 (badQubits (qubits s)) ∷ row 4 (ltb mostGates (count s)) ∷ []
 
 module _ (k : ℕ) (s : List ℕ) (head : headSize ≤ k) where
-  -- the bytes of the head are among the first k
+  -- g stands in the first k bytes
   same-count : count (take k s) ≡ count s
   same-count = rw (getD-take k s 3 0 (omega arith), getD-take k s 4 0 (omega arith)) refl
 
+  -- so does n
   same-qubits : qubits (take k s) ≡ qubits s
   same-qubits = getD-take k s 2 0 (omega arith)
 
+  -- and so does the mark
   same-mark : marked listMark (take k s) ≡ marked listMark s
   same-mark = rw (getD-take k s 0 0 (omega arith), getD-take k s 1 0 (omega arith)) refl
 
-  -- a number of bytes that is not above k is reached by the first k exactly where it is by all
+  -- whether there are fewer than n bytes is told by the first k, where n is not above k
   same-length : (n : ℕ) → n ≤ k → ltb (length (take k s)) n ≡ ltb (length s) n
   same-length n below =
       let cut = length-take k s in same-test (length (take k s)) n (length s) n (λ l. omega arith) (λ l. omega arith)
@@ -85,14 +87,14 @@ module _ (k : ℕ) (s : List ℕ) (head : headSize ≤ k) where
         rw (drop-take headSize k s head (omega arith))
         (take-take (gateSize * count s) (k - headSize) (drop headSize s) (omega arith))
 
-    -- such a record has the same rows and the same gates
+    -- it has the same rows and the same gates
     cut-behind : read (take k s) ≡ read s
     unfolding read recordRows
     cut-behind =
         rw (same-length headSize head, same-mark, same-qubits, same-count, same-length (size (count s)) fits, same-body) refl
 
   -- where the cut is behind the record, unless its head says too many gates, the record is read as before
-  pub read-cut : (count s ≤ mostGates → size (count s) ≤ k) → read (take k s) ≡ read s
+  read-cut : (count s ≤ mostGates → size (count s) ≤ k) → read (take k s) ≡ read s
   read-cut fits = go (ltb k (length s)) refl (ltb mostGates (count s)) refl
     where
       go : (b : Bool) → ltb k (length s) ≡ b → (c : Bool) → ltb mostGates (count s) ≡ c → read (take k s) ≡ read s

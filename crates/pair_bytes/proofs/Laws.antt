@@ -3,9 +3,9 @@
 -- Assumes nothing.
 use Prim.Native.Nat.{ℕ}
 use mathlib.Core.Path.{_≡_, refl, sym, ap, _∙_}
-use mathlib.Core.Bool.{Bool, true, false, cond, _||_}
+use mathlib.Core.Bool.{Bool, true, false, cond}
 use mathlib.Core.Option.{Option, none, some, Option·map}
-use mathlib.Core.List.{List, [], _∷_, _++_, map}
+use mathlib.Core.List.{List, _∷_, _++_, map}
 use lib.ListN.{take}
 use native.Mathlib.Omega.{arith}
 use Rattle.record_format.specs.Gate.{Gate}
@@ -13,7 +13,7 @@ use Rattle.record_format.specs.Row.{Fault, Row, told, first}
 use Rattle.record_format.specs.Reading.{Reading, qubits, gates, recordRows, accepted, refused, unless, read}
 use Rattle.record_format.proofs.Rows.{first-none, first-some, first-told, AllFaults, first-is}
 use Rattle.record_format.proofs.Theorems.{passed}
-use Rattle.comparison_types.specs.Call.{PairFault, inFirst, inSecond, ofPair, numberIn, pairRow, pairRows, pairFault}
+use Rattle.comparison_types.specs.Call.{PairFault, inFirst, inSecond, ofPair, pairRow, pairRows, pairFault}
 use Rattle.line_bytes.specs.Line.{refusedLine}
 use Rattle.pair_bytes.specs.Pair.{follow, firstOf, secondOf}
 use Rattle.pair_bytes.specs.Table.{programTable, unlessRefused}
@@ -36,7 +36,7 @@ module _ (s t : List ℕ) (below : List (Row PairFault)) where
   abbrev ofSecond : List (Row PairFault)
   ofSecond = map (told inSecond) (recordRows t)
 
-  -- the program's table goes by these
+  -- the program's table goes by that
   by-readings : first (programTable s t below) ≡ tableBy (follow s t) (read s) (read t) below
   unfolding read
   by-readings = go (first (recordRows s)) (first (recordRows t)) (first-told inFirst (recordRows s)) (first-told inSecond (recordRows t))
@@ -48,7 +48,7 @@ module _ (s t : List ℕ) (below : List (Row PairFault)) where
       go none (some f) e d = first-some (ofFirst ++ ofSecond) _ (inSecond f) (first-none ofFirst ofSecond e ∙ d)
       go none none e d = first-none (ofFirst ++ ofSecond) _ (first-none ofFirst ofSecond e ∙ d)
 
--- 12 above rows of pairs alone
+-- 12 above rows that are all of the pair
 twelve-above : (b : Bool) (rows : List (Row PairFault)) → AllFaults (λ f. wereRead f ≡ true) rows
     → first (pairRow 12 b ∷ rows) ≡ withTwelve b (first rows)
 unfolding first
@@ -77,12 +77,13 @@ module _ (below : ℕ → List Gate → List Gate → List (Row PairFault)) (lin
   printed s t =
       unlessRefused (first (programTable s t (below (qubits s) (gates s) (gates t)))) (line (qubits s) (gates s) (gates t))
 
-  -- the same by what reading the two lists finds and by whether bytes follow
+  -- what it prints by what reading the two lists finds and by whether bytes follow
   abbrev printedBy : Bool → Reading → Reading → List ℕ
   printedBy b (refused f) q = refusedLine (f .number)
   printedBy b (accepted n gs) (refused f) = refusedLine (f .number)
   printedBy b (accepted n gs) (accepted m hs) = unlessRefused (first (pairRow 12 b ∷ (pairRows n m gs hs ++ below n gs hs))) (line n gs hs)
 
+  -- it is the same
   printed-is : (s t : List ℕ) → printed s t ≡ printedBy (follow s t) (read s) (read t)
   printed-is s t = rw (by-readings s t (below (qubits s) (gates s) (gates t))) (go (read s) refl (read t) refl)
     where
@@ -110,6 +111,7 @@ module _ (below : ℕ → List Gate → List Gate → List (Row PairFault)) (lin
   stream-enough : (s : List ℕ) → printed (firstOf (take streamSize s)) (secondOf (take streamSize s)) ≡ printed (firstOf s) (secondOf s)
   stream-enough s = go (read s) refl
     where
+      -- its first record is read as before
       same : read (firstOf (take streamSize s)) ≡ read (firstOf s)
       same = read-first (take streamSize s) ∙ tells-cut streamSize s (omega arith) .reads ∙ sym (read-first s)
 

@@ -13,7 +13,7 @@ abbrev pub goesOn : List ℕ → Bool
 goesOn s = ltb (size (count s)) (length s)
 
 -- bytes follow one of two records. (Of a stream's two records only the second can have some behind it: `only-the-second` in
--- proofs/Laws.antt.)
+-- proofs/Cutting.antt.)
 abbrev pub follow : List ℕ → List ℕ → Bool
 follow s t = goesOn s || goesOn t
 
