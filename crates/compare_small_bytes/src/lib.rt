@@ -8,7 +8,8 @@ use dense::compare;
 use dense_line::write_answer;
 use line_bytes::LINE_SIZE;
 use pair_bytes::bytes_follow;
-use pair_bytes::own_size;
+use pair_bytes::first_of;
+use pair_bytes::second_of;
 
 // The line for two files, each of them one record.
 pub fn write_pair(first: &[u8], second: &[u8], line: &mut [u8; LINE_SIZE]) -> usize
@@ -23,6 +24,5 @@ pub fn write_pair(first: &[u8], second: &[u8], line: &mut [u8; LINE_SIZE]) -> us
 pub fn write_stream(stream: &[u8], line: &mut [u8; LINE_SIZE]) -> usize
     ensures { λ r. ⌜ AtFront (streamLine (now (stream .entry))) (now (line .entry)) r (now (line .exit)) ⌝ }
 {
-    let end = own_size(stream);
-    write_pair(&stream[..end], &stream[end..], line)
+    write_pair(first_of(stream), second_of(stream), line)
 }

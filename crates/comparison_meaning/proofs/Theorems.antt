@@ -41,7 +41,7 @@ pub decided-by :
     → OnePower n first second
     → (v : Verdict) (shown : ℕ)
     → (v ≡ equal → Carries n 0 first second)
-    → (v ≡ turned → Turn n first second shown × Carries n shown first second)
+    → (v ≡ turned → Turn shown × Carries n shown first second)
     → (v ≡ different → SomePower n first second → ⊥)
     → (v ≡ undecided → ⊥)
     → DecidedBy n first second v shown
@@ -177,7 +177,7 @@ module _ (n : ℕ) (first second : List Gate) (l : AllWithin n first) (r : AllWi
   pub turned-is-right : TurnedIsRight n first second (compare 0 n first second)
   turned-is-right h = is (rw h at (reason shown))
     where
-      is : {a b : ℕ} → Judged 0 n (reducedOf 0 n first second) turned a b → Turn n first second a × Carries n a first second
+      is : {a b : ℕ} → Judged 0 n (reducedOf 0 n first second) turned a b → Turn a × Carries n a first second
       is (rotated done sized none-found other) = ((other, omega arith), carries done sized none-found)
 
   -- where the reduction is blocked, the diagonal amplitude is 0 at the input shown

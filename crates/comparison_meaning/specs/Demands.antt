@@ -26,6 +26,10 @@ use Rattle.comparison_meaning.specs.Verdict.{Verdict, Result, equal, dif
 abbrev pub Reached : ℕ → ℕ → List Gate → List Gate → PathSum → Counts → Type 0
 Reached scratch n first second t d = Steps (pinnedOf scratch n first second .sum) (pinnedOf scratch n first second .counts) t d
 
+-- a turn: a power of ω from the first to the seventh, and not 1
+abbrev pub Turn : ℕ → Type 0
+Turn j = (1 ≤ j) × (j < 8)
+
 module _ (n : ℕ) (first second : List Gate) where
   -- where pinning ends
   abbrev pub pinning : End
@@ -42,10 +46,6 @@ module _ (n : ℕ) (first second : List Gate) where
   -- at most one power of ω does, mod 8: a power that carries the pair is the power
   abbrev pub OnePower : Type 0
   OnePower = (i j : ℕ) → Carries n i first second → Carries n j first second → i % 8 ≡ j % 8
-
-  -- a power of ω from the first to the seventh: not 1
-  abbrev pub Turn : ℕ → Type 0
-  Turn j = (1 ≤ j) × (j < 8)
 
   -- demand 2: equal is said only where all amplitudes agree exactly
   abbrev pub EqualIsRight : Result → Type 0

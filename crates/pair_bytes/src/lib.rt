@@ -2,7 +2,7 @@
 // others: document 01, "Where a call is turned down".
 ghost use mathlib.Core.Path.{_≡_};
 ghost use Rattle.comparison_types.specs.Call.{faultOf};
-ghost use Rattle.pair_bytes.specs.Pair.{ownSize, follow};
+ghost use Rattle.pair_bytes.specs.Pair.{ownSize, follow, firstOf, secondOf};
 ghost use Rattle.pair_bytes.specs.Inner.{wereRead, refusedBy};
 use comparison_types::Refusal;
 use comparison_types::number;
@@ -14,7 +14,7 @@ use record_format::HEAD_SIZE;
 pub const BYTES_FOLLOW: u8 = 12;
 
 // The bytes of the record at the start of a slice, as its head says; all bytes where the record is cut.
-pub fn own_size(s: &[u8]) -> usize
+fn own_size(s: &[u8]) -> usize
     ensures { λ r. ⌜ r ≡ ownSize (now (s .entry)) ⌝ }
 {
     if s.len() < HEAD_SIZE {
@@ -25,6 +25,22 @@ pub fn own_size(s: &[u8]) -> usize
         return size;
     }
     s.len()
+}
+
+// A stream's first record.
+pub fn first_of(stream: &[u8]) -> &[u8]
+    ensures { λ r. ⌜ now r ≡ firstOf (now (stream .entry)) ⌝ }
+{
+    let end = own_size(stream);
+    &stream[..end]
+}
+
+// What stands directly after it.
+pub fn second_of(stream: &[u8]) -> &[u8]
+    ensures { λ r. ⌜ now r ≡ secondOf (now (stream .entry)) ⌝ }
+{
+    let end = own_size(stream);
+    &stream[end..]
 }
 
 // Do bytes follow one of two records?
