@@ -17,7 +17,7 @@ NUMBERS, MOST_QUBITS, MOST_HADAMARDS = 512, 6, 60
 
 
 class Refused(Exception):
-    """A call turned down: the number, the bad gate's index and the list of a pair, "first" or "second"; None where there is none."""
+    """A call refused: the number, the bad gate's index and the list of a pair, "first" or "second"; None where there is none."""
 
     def __init__(self, number, index=None, which=None):
         super().__init__(number, index, which)

@@ -73,7 +73,7 @@ fn decide(n: usize, first: &[u8], second: &[u8], sets: &mut [u64], coeffs: &mut 
     outcome
 }
 
-// Two lists compared, each read once: the outcome with the gates of both lists, or why the pair is turned down. Only the places that the
+// Two lists compared, each read once: the outcome with the gates of both lists, or why the pair is refused. Only the places that the
 // comparison may use are lent on.
 pub fn compare_read(first: &[u8], second: &[u8], sets: &mut [u64], coeffs: &mut [u8]) -> Comparison
     ensures steps { λ r. ⌜ saidOf (answerOf r) ≡ comparison (now (first .entry)) (now (second .entry)) (length (now (sets .entry))) (length (now (coeffs .entry))) ⌝ }
@@ -95,7 +95,7 @@ pub fn compare_read(first: &[u8], second: &[u8], sets: &mut [u64], coeffs: &mut 
     }
 }
 
-// Two lists compared: the verdict with its inputs and counts, or why the pair is turned down.
+// Two lists compared: the verdict with its inputs and counts, or why the pair is refused.
 pub fn compare(first: &[u8], second: &[u8], sets: &mut [u64], coeffs: &mut [u8]) -> Answer
     ensures steps { λ r. ⌜ saidOf r ≡ comparison (now (first .entry)) (now (second .entry)) (length (now (sets .entry))) (length (now (coeffs .entry))) ⌝ }
     ensures kept { λ r. ⌜ (now (sets .exit) ≡ leftBy (saidOf r) (now (sets .entry))) × (now (coeffs .exit) ≡ leftBy (saidOf r) (now (coeffs .entry))) ⌝ }

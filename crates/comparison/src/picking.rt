@@ -51,7 +51,7 @@ fn whole(s: &[u8], g: usize) -> &[u8]
 }
 
 // Of two lists that compare equal, the record of the better one, as the caller's own part; the first if they are different, undecided or
-// turned; an empty part of the first if the pair is turned down.
+// turned; an empty part of the first if the pair is refused.
 pub fn pick<'a, 'b, 'c>(
     first: &'a [u8],
     second: &'a [u8],

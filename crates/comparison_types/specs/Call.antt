@@ -23,7 +23,7 @@ use Rattle.comparison_types.specs.declared.Refusal.the-variants.{QubitsD
 use Rattle.comparison_types.specs.declared.Answer.{Answer}
 use Rattle.comparison_types.specs.declared.Answer.the-variants.{Compared, Refused}
 
--- why a pair is turned down: a fault of the first list or of the second, or a number of the two together and of the workspaces
+-- why a pair is refused: a fault of the first list or of the second, or a number of the two together and of the workspaces
 pub data PairFault : Type 0 where
   inFirst inSecond : Fault → PairFault
   ofPair : ℕ → PairFault
@@ -47,7 +47,7 @@ faultOf WorkspaceShort = ofPair 10
 abbrev pub numberOf : Refusal → ℕ
 numberOf r = numberIn (faultOf r)
 
--- what a comparison says: a result, or why the pair is turned down and nothing else
+-- what a comparison says: a result, or why the pair is refused and nothing else
 pub data Said : Type 0 where
   says : Result → Said
   refuses : PairFault → Said

@@ -35,7 +35,7 @@ pub struct Outcome {
     pub left: u8,
 }
 
-// Why a pair is turned down. specs/Call.antt gives each case the table's number and, for a list, the index of its gate.
+// Why a pair is refused. specs/Call.antt gives each case the table's number and, for a list, the index of its gate.
 pub enum Refusal {
     // 1 to 7 and 13: the first list
     First(record_format::Refusal),
@@ -127,13 +127,13 @@ pub struct End {
     pub counts: Counts,
 }
 
-// What the checks on a pair find: the qubits of both lists, the gates of the first and those of the second; or why it is turned down.
+// What the checks on a pair find: the qubits of both lists, the gates of the first and those of the second; or why it is refused.
 pub enum PairCheck {
     Good { n: usize, g: usize, h: usize },
     Refused(Refusal),
 }
 
-// What comparing a pair gives: the outcome, the gates of the first list and those of the second; or why it is turned down.
+// What comparing a pair gives: the outcome, the gates of the first list and those of the second; or why it is refused.
 pub enum Comparison {
     Done {
         outcome: Outcome,

@@ -41,7 +41,7 @@ fn outcome_of(judged: Judged) -> Outcome
     }
 }
 
-// Two lists compared, all columns of both: the verdict with its inputs, or why the pair is turned down. Only the numbers that the comparison
+// Two lists compared, all columns of both: the verdict with its inputs, or why the pair is refused. Only the numbers that the comparison
 // may use are lent on.
 pub fn compare(first: &[u8], second: &[u8], buffer: &mut [i64]) -> Answer
     ensures steps { λ r. ⌜ saidOf r ≡ denseComparison (now (first .entry)) (now (second .entry)) (length (now (buffer .entry))) ⌝ }

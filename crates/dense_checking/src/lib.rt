@@ -22,7 +22,7 @@ pub const BLOCK_H_GATES: usize = 60;
 pub const BUFFER_SIZE: usize = 512;
 
 // What the checks on a call find: the qubits of both lists, the gates of the first and of the second, and the H gates of each; or why it is
-// turned down.
+// refused.
 pub enum BlockCheck {
     Good {
         n: usize,

@@ -34,7 +34,7 @@ found (unfitAt v) = record { verdict = different; first = 0; second = v }
 abbrev pub compareColumns : ℕ → List Gate → List Gate → Found
 compareColumns n gs hs = found (finding n gs hs)
 
--- what the call says: what is found, or why the pair is turned down and nothing else
+-- what the call says: what is found, or why the pair is refused and nothing else
 pub data Said : Type 0 where
   says : Found → Said
   refuses : PairFault → Said

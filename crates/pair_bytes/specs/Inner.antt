@@ -11,7 +11,7 @@ wereRead (inFirst f) = false
 wereRead (inSecond f) = false
 wereRead (ofPair k) = true
 
--- the fault that a pair is turned down for: 12 where both lists were read and bytes follow one of the records, else the comparison's
+-- the fault that a pair is refused for: 12 where both lists were read and bytes follow one of the records, else the comparison's
 abbrev pub toldFor : Bool → PairFault → PairFault
 toldFor follow f = cond (wereRead f && follow) (ofPair 12) f
 

@@ -18,7 +18,7 @@ programTable s t below =
     ++ map (told inSecond) (recordRows t)
     ++ (pairRow 12 (follow s t) ∷ (pairRows (qubits s) (qubits t) (gates s) (gates t) ++ below))
 
--- the line that is printed, unless a row turns the pair down: then `refused` and the row's number
+-- the line that is printed, unless a row refuses the pair: then `refused` and the row's number
 abbrev pub unlessRefused : Option PairFault → List ℕ → List ℕ
 unlessRefused none line = line
 unlessRefused (some f) line = refusedLine (numberIn f)

@@ -23,7 +23,7 @@ use record_reading::gates;
 // The places that building asks of each workspace.
 const PLACES: usize = 3136;
 
-// The qubits of the record at the start of the bytes; 0 where it is turned down.
+// The qubits of the record at the start of the bytes; 0 where it is refused.
 fn qubits(s: &[u8]) -> usize
     ensures { λ r. ⌜ (0 < r → (gs : List Gate) × (read (now (s .entry)) ≡ accepted r gs)) ⌝ }
 {

@@ -27,11 +27,11 @@ use Rattle.record_format.proofs.Encoding.{length-gates, length-encode, 
 use Rattle.record_format.proofs.Storing.{behind-head}
 use Rattle.record_format.proofs.Reading.{Accepts, refuses-by}
 
--- a writer that is turned down by a fault leaves the buffer l alone
+-- a writer that is refused by a fault leaves the buffer l alone
 abbrev pub turnedDown : Fault → List ℕ → Outcome
 turnedDown f l = record { answer = refuses f; buffer = l }
 
--- a writer with no row of its own is turned down where the buffer is shorter than its k bytes
+-- a writer with no row of its own is refused where the buffer is shorter than its k bytes
 write-short : (new l : List ℕ) (k : ℕ) → length new ≡ k → length l < k → write [] new l ≡ turnedDown (fault 11) l
 unfolding write first
 write-short new l k e h = rw (e, lt-ltb (length l) k h)
@@ -73,7 +73,7 @@ append-stored n g r l m fits e =
     write-fits (appended n g r l) l (size g + 3) (length-appended n g r l (omega arith)) fits
     ∙ rw (e, take-append-add h (drop 5 l) (3 * g), add-assoc 5 (3 * g) 3, behind-head h l (3 * g + 3), append-assoc old new)
 
--- adding to a record that is turned down
+-- adding to a record that is refused
 pub add-unread : (r : Raw) (l : List ℕ) (found : Checked) (no-record : Refusal) → checkedAnswer found ≡ checkAnswer (read l)
     → found ≡ Checked.Refused no-record
     → add r l ≡ turnedDown (faultOf no-record) l
@@ -114,7 +114,7 @@ add-good r l n g found read-l room faults is =
     write-on _ _ l (first-to-add r l n g read-l ∙ rw (ne-eqb g 512 room) good)
     ∙ rw (read-l .n-is, read-l .g-is, encode-appended l r g (read-l .good) (rw (read-l .n-is) at good))
 
--- inverting a record that is turned down
+-- inverting a record that is refused
 pub inverse-unread : (s l : List ℕ) (found : Checked) (no-record : Refusal) → checkedAnswer found ≡ checkAnswer (read s)
     → found ≡ Checked.Refused no-record
     → inverse s l ≡ turnedDown (faultOf no-record) l

@@ -16,7 +16,7 @@ use Rattle.record_format.specs.declared.ReportRead.the-variants.{Fields}
 use Rattle.record_format.specs.declared.gate.GateCheck.{GateCheck}
 use Rattle.record_format.specs.declared.gate.GateCheck.the-variants.{Good}
 
--- what a call answers: its values, or why it is turned down and nothing else
+-- what a call answers: its values, or why it is refused and nothing else
 pub data Answer : Type 0 where
   gives : List ℕ → Answer
   refuses : Fault → Answer

@@ -81,7 +81,7 @@ allGateRows n i (r ∷ rs) = gateRows n i r ++ allGateRows n (suc i) rs
 unfoldable pub recordRows : List ℕ → List (Row Fault)
 recordRows s = headRows s ++ allGateRows (qubits s) 0 (raws (body s))
 
--- what reading finds: n and the gates, or why the record is turned down
+-- what reading finds: n and the gates, or why the record is refused
 pub data Reading : Type 0 where
   accepted : ℕ → List Gate → Reading
   refused : Fault → Reading

@@ -6,7 +6,7 @@ use mathlib.Core.Bool.{Bool, cond}
 use mathlib.Core.Option.{Option, none, some}
 use mathlib.Core.List.{List, [], _∷_}
 
--- why a record is turned down: the number, and the index of the gate that it is about, if it is about one
+-- why a record is refused: the number, and the index of the gate that it is about, if it is about one
 pub record Fault : Type 0 where
   pub number : ℕ
   pub index : Option ℕ

@@ -24,7 +24,7 @@ abbrev pub faultOr : Option Fault → Answer → Answer
 faultOr none a = a
 faultOr (some f) a = refuses f
 
--- the check call: n and g, or why the record is turned down
+-- the check call: n and g, or why the record is refused
 abbrev pub checkAnswer : Reading → Answer
 checkAnswer (accepted n gs) = gives (n ∷ length gs ∷ [])
 checkAnswer (refused f) = refuses f

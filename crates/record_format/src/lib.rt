@@ -33,7 +33,7 @@ pub enum Refusal {
     BufferShort,
 }
 
-// What check answers: the record's qubits and gates, or why it is turned down.
+// What check answers: the record's qubits and gates, or why it is refused.
 pub enum Checked {
     Accepted { n: usize, g: usize },
     Refused(Refusal),

@@ -73,7 +73,7 @@ fn check_gates(s: &[u8], n: usize, g: usize) -> GateCheck
     GateCheck::Good
 }
 
-// The qubits and gates of the record at the start of s, or why it is turned down.
+// The qubits and gates of the record at the start of s, or why it is refused.
 pub fn check(s: &[u8]) -> Checked
     ensures { λ r. ⌜ checkedAnswer r ≡ checkAnswer (read (now (s .entry))) ⌝ }
 {
@@ -95,7 +95,7 @@ pub fn gate_bytes(s: &[u8], g: usize) -> &[u8]
     &s[HEAD_SIZE..HEAD_SIZE + GATE_SIZE * g]
 }
 
-// The gate bytes of the record at the start of s, as that part of s; an empty part if the record is turned down.
+// The gate bytes of the record at the start of s, as that part of s; an empty part if the record is refused.
 pub fn gates(s: &[u8]) -> &[u8]
     ensures content { λ r. ⌜ now r ≡ gatePart (now (s .entry)) (read (now (s .entry))) ⌝ }
     ensures own { λ r. ⌜ r .ptr ≡ gatesAt (read (now (s .entry))) (s .entry .ptr) ⌝ }
