@@ -1,9 +1,10 @@
 -- The numbers of document 01, "Amplitudes": a + bω + cω² + dω³ with four whole numbers, ω = e^(iπ/4), so that ω⁴ = −1.
 -- Assumes nothing.
 use Prim.Native.Nat.{ℕ, zero, suc}
-use lib.IntN.{ℤ, pos, negℤ, _+ℤ_}
+use lib.IntN.{ℤ, pos, negℤ, _+ℤ_, _-ℤ_, _*ℤ_}
 
 infixl 60 _+ω_
+infixl 70 _*ω_
 -- a + bω + cω² + dω³
 pub record Zω : Type 0 where
   pub a : ℤ
@@ -48,3 +49,18 @@ mul√2 x = ω^ 1 x +ω neg (ω^ 3 x)
 unfoldable pub √2^ : ℕ → Zω → Zω
 √2^ zero x = x
 √2^ (suc k) x = mul√2 (√2^ k x)
+
+-- multiplication, each coefficient of one by each of the other: ω^i times ω^k is ω^(i + k), and ω⁴ = −1 turns what comes round negative
+unfoldable pub _*ω_ : Zω → Zω → Zω
+x *ω y =
+    record {
+      a = x .a *ℤ y .a -ℤ (x .b *ℤ y .d +ℤ x .c *ℤ y .c +ℤ x .d *ℤ y .b);
+      b = x .a *ℤ y .b +ℤ x .b *ℤ y .a -ℤ (x .c *ℤ y .d +ℤ x .d *ℤ y .c);
+      c = x .a *ℤ y .c +ℤ x .b *ℤ y .b +ℤ x .c *ℤ y .a -ℤ x .d *ℤ y .d;
+      d = x .a *ℤ y .d +ℤ x .b *ℤ y .c +ℤ x .c *ℤ y .b +ℤ x .d *ℤ y .a;
+    }
+
+-- a function added up over the numbers below m
+unfoldable pub sumBelow : ℕ → (ℕ → Zω) → Zω
+sumBelow zero f = 0ω
+sumBelow (suc m) f = sumBelow m f +ω f m

@@ -1,7 +1,7 @@
 -- Gates in their typed form, and as the three bytes of document 01, "Gate lists as bytes". The layers above speak of these.
 -- Assumes nothing.
 use mathlib.Core.Logic.{_≢_}
-use Prim.Native.Nat.{ℕ, _-_, _<_}
+use Prim.Native.Nat.{ℕ, _+_, _-_, _<_}
 use mathlib.Core.Bool.{cond}
 use mathlib.Core.List.{List, [], _∷_, _++_, map, reverse}
 use lib.ListN.{getD}
@@ -109,3 +109,12 @@ inverseGate (two v a b) = two v a b
 -- the gates backwards, each inverted
 unfoldable pub inverseList : List Gate → List Gate
 inverseList gs = reverse (map inverseGate gs)
+
+-- a gate's qubits numbered k further on
+unfoldable pub shiftGate : ℕ → Gate → Gate
+shiftGate k (one u a) = one u (k + a)
+shiftGate k (two v a b) = two v (k + a) (k + b)
+
+-- those of every gate of a list
+unfoldable pub shiftList : ℕ → List Gate → List Gate
+shiftList k gs = map (shiftGate k) gs
