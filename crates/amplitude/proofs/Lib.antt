@@ -1,8 +1,10 @@
--- The laws of amplitudes. In order: single amplitudes and identities that pin the gates, numbers, columns compared by computation, sizes, the exclusive or, bits, lists as linear maps,
--- inverses, sizes added up, two lists compared by one number, and Y.
+-- The laws of amplitudes. In order: single amplitudes and identities that pin the gates, numbers, whole numbers, products and sums, columns compared by
+-- computation, sizes, the exclusive or, bits, lists as linear maps, inverses, sizes added up, two lists compared by one number, and Y.
 pub mod Anchors
 pub mod Identities
 pub mod NumberLaws
+pub mod WholeLaws
+pub mod ProductLaws
 pub mod Testing
 pub mod Norm
 pub mod XorLaws
