@@ -1,11 +1,11 @@
--- The product of numbers a + bω + cω² + dω³: commutative, distributive, with 0 and 1, and past it move ω and √2. Also sums over the
--- numbers below m.
+-- The product of numbers a + bω + cω² + dω³: it commutes, associates, distributes over sums and passes ω and √2 through. Also sums over
+-- the numbers below m.
 -- Assumes nothing.
-use mathlib.Core.Path.{_≡_, refl, sym, _∙_, ap}
+use mathlib.Core.Path.{_≡_, refl, sym, _∙_, ap, subst}
 use Prim.Native.Nat.{ℕ, zero, suc, _<_}
 use native.Mathlib.Decide.{ℕ-discrete}
 use native.Mathlib.Omega.{arith}
-use lib.IntN.{one, +ℤ-assoc, +ℤ-idl, +ℤ-idr, negℤ-+ℤ, *ℤ-comm, *ℤ-zero, *ℤ-one}
+use lib.IntN.{ℤ, one, +ℤ-assoc, +ℤ-idl, +ℤ-idr, ℤ-ind, negℤ-+ℤ, *ℤ-comm, *ℤ-zero, *ℤ-one}
 use Rattle.amplitude.specs.Number.{Zω, whole, 0ω, 1ω, _+ω_, neg, mulω, ω^, mul√2, √2^, _*ω_, sumBelow}
 use Rattle.amplitude.proofs.NumberLaws.{+ω-idl, +ω-idr, ω^-four}
 use Rattle.amplitude.proofs.WholeLaws.{sorting, *ℤ-+ℤ, *ℤ-negℤ}
@@ -54,6 +54,35 @@ pub *ω-√2^ : (k : ℕ) (x y : Zω) → x *ω √2^ k y ≡ √2^ k (x *ω y)
 unfolding √2^ mul√2
 *ω-√2^ zero x y = refl
 *ω-√2^ (suc k) x y = simp (*ω-+ω, *ω-neg, *ω-ω^, *ω-√2^ k x y)
+
+-- 1 times a number
+1ω-*ω : (x : Zω) → 1ω *ω x ≡ x
+1ω-*ω x = *ω-comm 1ω x ∙ *ω-1ω x
+
+-- a number that ω multiplies, times another
+mulω-*ω : (x y : Zω) → mulω x *ω y ≡ mulω (x *ω y)
+mulω-*ω x y = rw (*ω-comm (mulω x) y, *ω-comm x y) (*ω-mulω y x)
+
+-- what holds of 1 and is kept by sums and by ω holds of every number
+from-one : (P : Zω → Type 0) → P 1ω → ((x y : Zω) → P x → P y → P (x +ω y)) → ((x : Zω) → P x → P (mulω x)) → (x : Zω) → P x
+unfolding 1ω whole _+ω_ neg mulω
+from-one P at-one sum turn x =
+    subst P built (sum _ _ (at-whole (x .a)) (turn _ (sum _ _ (at-whole (x .b)) (turn _ (sum _ _ (at-whole (x .c)) (turn _ (at-whole (x .d))))))))
+  where
+    built : whole (x .a) +ω mulω (whole (x .b) +ω mulω (whole (x .c) +ω mulω (whole (x .d)))) ≡ x
+    built = simp (+ℤ-idl, +ℤ-idr)
+
+    at-minus : P (neg 1ω)
+    at-minus = turn _ (turn _ (turn _ (turn _ at-one)))
+
+    at-whole : (k : ℤ) → P (whole k)
+    at-whole = ℤ-ind (λ k. P (whole k)) (sum _ _ at-one at-minus) (λ n h. sum _ _ h at-one) (λ n h. sum _ _ h at-minus)
+
+-- the product associates
+pub *ω-assoc : (x y z : Zω) → (x *ω y) *ω z ≡ x *ω (y *ω z)
+*ω-assoc x y z =
+    from-one (λ x. (x *ω y) *ω z ≡ x *ω (y *ω z))
+    (simp 1ω-*ω) (λ x x′ h h′. simp (+ω-*ω, h, h′)) (λ x h. simp (mulω-*ω, h)) x
 
 -- sums of functions that agree below m are equal
 pub sumBelow-cong : (m : ℕ) (f g : ℕ → Zω) → ((u : ℕ) → u < m → f u ≡ g u) → sumBelow m f ≡ sumBelow m g

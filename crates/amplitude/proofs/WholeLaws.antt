@@ -1,8 +1,8 @@
--- Laws of whole numbers: a product distributes over a sum and passes a negative through; sums of the same summands come to one form.
+-- Laws of whole numbers: sums of the same summands come to one form; a product distributes over a sum and passes a negative through.
 -- Assumes nothing.
 use mathlib.Core.Path.{_≡_, sym, _∙_, ap}
 use Prim.Native.Nat.{zero, suc}
-use lib.IntN.{ℤ, pos, negsuc, negℤ, sucℤ, predℤ, _+ℤ_, _*ℤ_, +ℤ-comm, +ℤ-assoc, negℤ-+ℤ, negℤ-negℤ, zero-*ℤ, *ℤ-zero, *ℤ-negsuc, sucℤ-*ℤ, predℤ-*ℤ}
+use lib.IntN.{ℤ, pos, negsuc, negℤ, _+ℤ_, _-ℤ_, _*ℤ_, +ℤ-comm, +ℤ-assoc, +ℤ-one, -ℤ-one, ℤ-ind, negℤ-+ℤ, negℤ-negℤ, zero-*ℤ, *ℤ-zero, *ℤ-negsuc, sucℤ-*ℤ, predℤ-*ℤ}
 
 -- the first two of three summands exchanged
 pub +ℤ-left : (a b c : ℤ) → a +ℤ (b +ℤ c) ≡ b +ℤ (a +ℤ c)
@@ -11,28 +11,18 @@ pub +ℤ-left : (a b c : ℤ) → a +ℤ (b +ℤ c) ≡ b +ℤ (a +ℤ c)
 -- the laws that sort the summands of a sum
 pub ruleset sorting = (+ℤ-assoc, +ℤ-comm, +ℤ-left)
 
--- a as a factor distributes over b + c
-abbrev Distributes : ℤ → ℤ → ℤ → Type 0
-Distributes a b c = a *ℤ (b +ℤ c) ≡ a *ℤ b +ℤ a *ℤ c
-
--- with a factor distributes the next one up
-distributes-up : (a b c : ℤ) → Distributes a b c → Distributes (sucℤ a) b c
-distributes-up a b c h = simp (sucℤ-*ℤ, h, sorting)
-
--- and the next one down
-distributes-down : (a b c : ℤ) → Distributes a b c → Distributes (predℤ a) b c
-distributes-down a b c h = simp (predℤ-*ℤ, h, negℤ-+ℤ, sorting)
-
--- 0 distributes
-distributes-zero : (b c : ℤ) → Distributes (pos 0) b c
-distributes-zero b c = simp zero-*ℤ
-
--- every factor distributes
+-- a product distributes over a sum on its right: 0 as a factor does, and with a number its neighbours do
 pub *ℤ-+ℤ : (a b c : ℤ) → a *ℤ (b +ℤ c) ≡ a *ℤ b +ℤ a *ℤ c
-*ℤ-+ℤ (pos zero) b c = distributes-zero b c
-*ℤ-+ℤ (pos (suc n)) b c = distributes-up (pos n) b c (*ℤ-+ℤ (pos n) b c)
-*ℤ-+ℤ (negsuc zero) b c = distributes-down (pos 0) b c (distributes-zero b c)
-*ℤ-+ℤ (negsuc (suc n)) b c = distributes-down (negsuc n) b c (*ℤ-+ℤ (negsuc n) b c)
+*ℤ-+ℤ a b c = ℤ-ind Distributes (simp zero-*ℤ) (λ n. up (pos n)) (λ n. down (negℤ (pos n))) a
+  where
+    Distributes : ℤ → Type 0
+    Distributes k = k *ℤ (b +ℤ c) ≡ k *ℤ b +ℤ k *ℤ c
+
+    up : (k : ℤ) → Distributes k → Distributes (k +ℤ pos 1)
+    up k h = rw (+ℤ-one k) (simp (sucℤ-*ℤ, h, sorting))
+
+    down : (k : ℤ) → Distributes k → Distributes (k -ℤ pos 1)
+    down k h = rw (-ℤ-one k) (simp (predℤ-*ℤ, h, negℤ-+ℤ, sorting))
 
 -- a product with a negative on its right
 pub *ℤ-negℤ : (a b : ℤ) → a *ℤ negℤ b ≡ negℤ (a *ℤ b)
