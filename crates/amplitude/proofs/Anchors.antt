@@ -6,7 +6,7 @@ use mathlib.Core.Bool.{xor}
 use mathlib.Core.List.{[], _∷_, map}
 use lib.IntN.{ℤ, pos, negℤ}
 use Rattle.record_format.specs.Gate.{everyKind, one, two, X, Y, Z, T, H, CX, SWAP}
-use Rattle.amplitude.specs.Number.{Zω, whole, 0ω, 1ω, _+ω_, neg, mulω, ω^, mul√2, √2^}
+use Rattle.amplitude.specs.Number.{Zω, whole, 0ω, 1ω, _+ω_, neg, mulω, ω^, mul√2, √2^, _*ω_}
 use Rattle.amplitude.specs.Bits.{bit, put}
 use Rattle.amplitude.specs.Matrix.{matrix, entry, times}
 use Rattle.amplitude.specs.Circuit.{basis, apply, run, column, tally, isH, isT, hGates, tGates}
@@ -62,6 +62,19 @@ fourth-power = refl
 pub root-of-two : √2^ 2 1ω ≡ 1ω +ω 1ω
 unfolding √2^ mul√2 ω^ mulω 1ω whole neg _+ω_
 root-of-two = refl
+
+-- ω³ times ω is −1
+pub product-of-powers : ω^ 3 1ω *ω ω^ 1 1ω ≡ neg 1ω
+unfolding _*ω_ ω^ mulω 1ω whole neg
+product-of-powers = refl
+
+-- (1 + 2ω + 3ω² + 4ω³)(5 + 6ω + 7ω² + 8ω³), each power of ω gathered:
+-- 5 − (16 + 21 + 24), 6 + 10 − (24 + 28), 7 + 12 + 15 − 32, 8 + 14 + 18 + 20
+pub product-of-all :
+    coordinates (pos 1) (pos 2) (pos 3) (pos 4) *ω coordinates (pos 5) (pos 6) (pos 7) (pos 8)
+    ≡ coordinates (negℤ (pos 56)) (negℤ (pos 36)) (pos 2) (pos 60)
+unfolding _*ω_
+product-of-all = refl
 
 -- T multiplies input 1 by ω
 pub t-turns : column (one T 0 ∷ []) 1 1 ≡ ω^ 1 1ω
