@@ -1,5 +1,5 @@
--- Running a gate list is linear: it passes sums, powers of ω and powers of √2 through. Also lists joined, and the weights of an
--- inverse list.
+-- Running a gate list is linear: it passes sums of states, factors, powers of ω and powers of √2 through. Also lists joined, and the
+-- weights of an inverse list.
 -- Assumes nothing.
 use mathlib.Core.Path.{_≡_, refl, sym, _∙_, ap, fun-ext}
 use mathlib.Core.Bool.{Bool, true, false, cond, _&&_}
@@ -8,12 +8,13 @@ use Prim.Native.Nat.{ℕ, _+_}
 use native.Mathlib.Omega.{arith}
 use Rattle.record_format.specs.Gate.{OneQubit, X, Y, Z, S, S†, T, T†, H, Gate, one, two, CX, CZ, SWAP, oneQubitKind, inverseKind, inverseGate, inverseList}
 use Rattle.record_format.proofs.GateLaws.{inverse-cons}
-use Rattle.amplitude.specs.Number.{Zω, 0ω, _+ω_, ω^, √2^}
+use Rattle.amplitude.specs.Number.{Zω, 0ω, _+ω_, _*ω_, ω^, √2^}
 use Rattle.amplitude.specs.Bits.{bit, put}
 use Rattle.amplitude.specs.Matrix.{Entry, O, ω, matrix, times, row}
 use Rattle.amplitude.specs.Circuit.{State, apply, run, tally, isH, isT, hGates, tGates}
 use Rattle.amplitude.proofs.BitLaws.{bit-put-same, put-put-same}
-use Rattle.amplitude.proofs.NumberLaws.{ω^-+ω, ω^-0ω, ω^-comm, √2^-+ω, √2^-0ω, √2^-ω^}
+use Rattle.amplitude.proofs.NumberLaws.{+ω-idl, +ω-swap, ω^-+ω, ω^-0ω, ω^-comm, √2^-+ω, √2^-0ω, √2^-ω^}
+use Rattle.amplitude.proofs.ProductLaws.{*ω-comm, *ω-+ω, *ω-0ω, *ω-ω^}
 
 -- a map of numbers that keeps 0, sums and turns by ω
 pub record Linear (f : Zω → Zω) : Type 0 where
@@ -29,6 +30,18 @@ linear-ω^ k = record { zero = ω^-0ω k; sum = ω^-+ω k; turn = ω^-comm k }
 pub linear-√2^ : (k : ℕ) → Linear (√2^ k)
 linear-√2^ k = record { zero = √2^-0ω k; sum = √2^-+ω k; turn = √2^-ω^ k }
 
+-- multiplication by a number is linear
+pub linear-*ω : (z : Zω) → Linear (λ x. z *ω x)
+linear-*ω z = record { zero = *ω-0ω z; sum = *ω-+ω z; turn = λ k. *ω-ω^ k z }
+
+-- and so from the other side
+pub linear-ω* : (z : Zω) → Linear (λ x. x *ω z)
+linear-ω* z = rw (fun-ext (λ x. *ω-comm x z)) (linear-*ω z)
+
+-- the map to 0 is linear
+pub linear-0ω : Linear (λ x. 0ω)
+linear-0ω = record { zero = refl; sum = λ x y. sym (+ω-idl 0ω); turn = λ k x. sym (ω^-0ω k) }
+
 -- an entry times 0
 pub times-0ω : (e : Entry) → times e 0ω ≡ 0ω
 unfolding times
@@ -41,6 +54,12 @@ unfolding times
 times-linear f l O x = sym (l .zero)
 times-linear f l (ω k) x = sym (l .turn k x)
 
+-- an entry times a sum
+times-+ω : (e : Entry) (x y : Zω) → times e (x +ω y) ≡ times e x +ω times e y
+unfolding times
+times-+ω O x y = sym (+ω-idl 0ω)
+times-+ω (ω k) x y = ω^-+ω k x y
+
 -- ω^0 changes nothing
 pub ω^-zero : (x : Zω) → ω^ 0 x ≡ x
 unfolding ω^
@@ -52,17 +71,30 @@ pub apply-one : (u : OneQubit) (q : ℕ) (ψ : State) (b : Bool) (w : ℕ) →
 unfolding apply
 apply-one u q ψ b w = simp (bit-put-same, put-put-same)
 
+-- a linear map commutes with a turn by ω⁴ under a condition
+pub cond-linear : (f : Zω → Zω) → Linear f → (t : Bool) (x : Zω) → cond t (ω^ 4 (f x)) (f x) ≡ f (cond t (ω^ 4 x) x)
+cond-linear f l true x = sym (l .turn 4 x)
+cond-linear f l false x = refl
+
 -- a gate commutes with a linear map
 pub apply-linear : (f : Zω → Zω) → Linear f → (g : Gate) (ψ : State) → apply g (λ w. f (ψ w)) ≡ (λ w. f (apply g ψ w))
 unfolding apply
 apply-linear f l (one u q) ψ = fun-ext (λ w. simp (times-linear f l) (sym (l .sum _ _)))
 apply-linear f l (two CX a b) ψ = refl
-apply-linear f l (two CZ a b) ψ = fun-ext (λ w. go (bit a w && bit b w) (ψ w))
-  where
-    go : (t : Bool) (x : Zω) → cond t (ω^ 4 (f x)) (f x) ≡ f (cond t (ω^ 4 x) x)
-    go true x = sym (l .turn 4 x)
-    go false x = refl
+apply-linear f l (two CZ a b) ψ = fun-ext (λ w. cond-linear f l (bit a w && bit b w) (ψ w))
 apply-linear f l (two SWAP a b) ψ = refl
+
+-- a gate passes a sum of states through
+apply-+ω : (g : Gate) (φ ψ : State) → apply g (λ w. φ w +ω ψ w) ≡ (λ w. apply g φ w +ω apply g ψ w)
+unfolding apply
+apply-+ω (one u q) φ ψ = fun-ext (λ w. simp times-+ω (+ω-swap _ _ _ _))
+apply-+ω (two CX a b) φ ψ = refl
+apply-+ω (two CZ a b) φ ψ = fun-ext (λ w. go (bit a w && bit b w) (φ w) (ψ w))
+  where
+    go : (t : Bool) (x y : Zω) → cond t (ω^ 4 (x +ω y)) (x +ω y) ≡ cond t (ω^ 4 x) x +ω cond t (ω^ 4 y) y
+    go true x y = ω^-+ω 4 x y
+    go false x y = refl
+apply-+ω (two SWAP a b) φ ψ = refl
 
 -- a gate commutes with a power of √2
 pub apply-√2^ : (k : ℕ) (g : Gate) (ψ : State) → apply g (λ w. √2^ k (ψ w)) ≡ (λ w. √2^ k (apply g ψ w))
@@ -73,6 +105,12 @@ pub run-linear : (f : Zω → Zω) → Linear f → (gs : List Gate) (ψ : State
 unfolding run
 run-linear f l [] ψ = refl
 run-linear f l (g ∷ gs) ψ = ap (run gs) (apply-linear f l g ψ) ∙ run-linear f l gs (apply g ψ)
+
+-- a list passes a sum of states through
+pub run-+ω : (gs : List Gate) (φ ψ : State) → run gs (λ w. φ w +ω ψ w) ≡ (λ w. run gs φ w +ω run gs ψ w)
+unfolding run
+run-+ω [] φ ψ = refl
+run-+ω (g ∷ gs) φ ψ = ap (run gs) (apply-+ω g φ ψ) ∙ run-+ω gs (apply g φ) (apply g ψ)
 
 -- a list commutes with a power of ω
 pub run-ω^ : (k : ℕ) (gs : List Gate) (ψ : State) → run gs (λ w. ω^ k (ψ w)) ≡ (λ w. ω^ k (run gs ψ w))
