@@ -1,13 +1,12 @@
 -- Where a comparison ends: the lowest variable of a set among the qubits, and the verdict by its cases.
 -- Assumes nothing.
-use mathlib.Core.Path.{_≡_, refl, sym, _∙_, ap}
+use mathlib.Core.Path.{_≡_, refl, sym}
 use mathlib.Core.Bool.{Bool, true, false}
 use mathlib.Core.List.{List, [], _∷_, _++_}
 use mathlib.Core.Option.{Option, none, some}
-use Prim.Native.Nat.{ℕ, zero, suc, _+_, _*_, _-_, _/_, _%_, _^_, _<_, _≤_}
-use native.Mathlib.Nat.{zero-add, mod-lt, div-add-mod'}
+use Prim.Native.Nat.{ℕ, zero, suc, _+_, _-_, _%_, _^_, _<_, _≤_}
+use native.Mathlib.Nat.{zero-add, mod-lt}
 use native.Mathlib.Omega.{arith}
-use lib.Bits.{block-half, block-odd}
 use lib.Count.{ones, onesIn}
 use lib.Dec.{eqb}
 use lib.ListN.{length}
@@ -15,6 +14,7 @@ use lib.Pow.{pow-pos, pow-mono}
 use borrow.Author.Tests.{eqb-true, eqb-false, eq-eqb, ne-eqb}
 use Rattle.amplitude.specs.Bits.{bit}
 use Rattle.amplitude.proofs.BitLaws.{bit-above}
+use Rattle.amplitude.proofs.BlockLaws.{bit-low}
 use Rattle.phase_sum_meaning.specs.Sets.{firstSuch, firstIn, from, Among, here, there}
 use Rattle.phase_sum_meaning.specs.Parity.{Parity}
 use Rattle.phase_sum_meaning.specs.Phase.{Phase}
@@ -27,17 +27,6 @@ use Rattle.phase_sum_types.specs.Workspace.{members}
 use Rattle.comparison_types.specs.Inner.{inputOf}
 use Rattle.phase_sum_types.proofs.Members.{length-members, members-none}
 use Rattle.phase_sum_types.proofs.Windows.{from-split}
-
--- a bit below n of a number with a multiple of 2^n added
-bit-block : (v n a r : ℕ) → v < n → bit v (a * 2 ^ n + r) ≡ bit v r
-unfolding bit
-bit-block v zero a r l = absurd (omega arith)
-bit-block zero (suc n) a r l = rw block-odd
-bit-block (suc v) (suc n) a r l = rw block-half (bit-block v n a (r / 2) (omega arith))
-
--- the bits below n are those of the rest by 2^n
-bit-rest : (v n s : ℕ) → v < n → bit v (s % 2 ^ n) ≡ bit v s
-bit-rest v n s l = sym (bit-block v n (s / 2 ^ n) (s % 2 ^ n) l) ∙ ap (λ (w : ℕ). bit v w) (div-add-mod' s (2 ^ n))
 
 -- the same is found by two tests that agree on a list, where none passes the first behind it
 first-agree :
@@ -62,7 +51,7 @@ lowest-below n s l =
     (λ v. bit v s)
     (from 0 n)
     (from n (mostVariables - n))
-    (λ v a. bit-rest v n s (omega (arith, from-among 0 n a)))
+    (λ v a. bit-low n v s (omega (arith, from-among 0 n a)))
     (λ v a. bit-above n v (s % 2 ^ n) (mod-lt s (pow-pos n)) (from-among n (mostVariables - n) a .0))
     )
 

@@ -3,15 +3,16 @@
 use mathlib.Core.Path.{_≡_, refl, sym, _∙_}
 use mathlib.Core.Bool.{Bool, true, false, _&&_, _||_, xor, and-self}
 use Prim.Native.Nat.{ℕ, zero, suc, _+_, _*_, _/_, _%_, _^_, _<_, min, max}
-use native.Mathlib.Nat.{mod-eq-of-lt, mod-mod, one-mul, div-one, mod-one, div-div-eq-div-mul, pow-suc, pow-succ'}
+use native.Mathlib.Nat.{mod-eq-of-lt, mod-mod, one-mul, div-one, mod-one, zero-lt-suc}
 use native.Mathlib.Omega.{arith}
-use lib.Arith.{bin-ind, mod-mul}
-use lib.Pow.{pow-lt, pow-pos}
+use lib.Arith.{bin-ind}
+use lib.Pow.{pow-lt}
 use lib.Bits.{bitAnd, bitOr, bitXor, differ, and-step, or-step, xor-step}
 use lib.Count.{ones, ones-step}
 use lib.Dec.{eqb}
 use Rattle.amplitude.specs.Bits.{digit, bit}
 use Rattle.amplitude.proofs.BitLaws.{digit-below, digit-eqb, rest-below, bits-ext}
+use Rattle.amplitude.proofs.BlockLaws.{high-half, low-half, bit-low}
 use Rattle.amplitude.proofs.XorLaws.{xor-falseˡ, xor-assoc}
 use Rattle.phase_sum_meaning.specs.Sets.{_△_, single, parity}
 use Rattle.phase_sum_meaning.proofs.SetLaws.{sum-bit, bit-△, parity-step, parity-empty}
@@ -19,10 +20,6 @@ use Rattle.phase_sum_meaning.proofs.SetLaws.{sum-bit, bit-△, parity-step, par
 -- 1 shifted by the number of a variable is the set of that variable
 pub shifted-one : (v : ℕ) → v < 64 → (1 * 2 ^ v) % 2 ^ 64 ≡ single v
 shifted-one v l = rw one-mul (mod-eq-of-lt (pow-lt l))
-
--- a number halved and then shifted down
-high-half : (k x : ℕ) → x / 2 / 2 ^ k ≡ x / 2 ^ suc k
-high-half k x = rw pow-succ' (div-div-eq-div-mul x 2 (2 ^ k))
 
 -- the lowest bit of a set shifted down by the number of a variable is the variable's
 pub shifted-bit : (v s : ℕ) → eqb (s / 2 ^ v % 2) 1 ≡ bit v s
@@ -103,28 +100,13 @@ parity-and =
       op-half bitAnd min _&&_ and-step min-digits s x,
     ))
 
--- the low digits of a number by the lowest and the others
-low-step : (k x : ℕ) → x % 2 ^ suc k ≡ x / 2 % 2 ^ k * 2 + x % 2
-low-step k x = rw pow-suc (mod-mul x (pow-pos k) (omega arith))
-
--- the low digits of a number halved
-low-half : (k x : ℕ) → x % 2 ^ suc k / 2 ≡ x / 2 % 2 ^ k
-low-half k x = omega (arith, low-step k x)
-
--- the lowest bit of the low digits of a number
-low-bit : (k x : ℕ) → bit 0 (x % 2 ^ suc k) ≡ bit 0 x
-unfolding bit
-low-bit k x =
-    let odd : x % 2 ^ suc k % 2 ≡ x % 2 = omega (arith, low-step k x) in
-    rw odd
-
 -- a parity by the first k variables and the others
 pub parity-cut : (k s x : ℕ) → parity s x ≡ xor (parity (s % 2 ^ k) (x % 2 ^ k)) (parity (s / 2 ^ k) (x / 2 ^ k))
 parity-cut zero s x = simp (mod-one, div-one, parity-empty, xor-falseˡ)
 parity-cut (suc k) s x =
     rw
     (parity-step s x, parity-cut k (s / 2) (x / 2), high-half k s, high-half k x, parity-step (s % 2 ^ suc k) (x % 2 ^ suc k))
-    (simp (low-half, low-bit) (sym (xor-assoc _ _ _)))
+    (simp (low-half, bit-low (suc k) 0, zero-lt-suc k) (sym (xor-assoc _ _ _)))
 
 -- the parity of a word's own bits is that of how many are 1
 parity-ones : (x : ℕ) → eqb (ones x % 2) 1 ≡ parity x x
