@@ -9,7 +9,8 @@ use Rattle.record_format.specs.Reading.{Reading, accepted, refused, read, qubit
 use Rattle.record_format.proofs.Theorems.{passed}
 use Rattle.phase_sum_meaning.specs.Room.{places}
 use Rattle.comparison_meaning.specs.Verdict.{compare}
-use Rattle.comparison_types.specs.Call.{PairFault, Said, says, workspaceRows, pairFault, compareRead, unlessFault, comparison}
+use Rattle.record_format.specs.Pair.{PairFault}
+use Rattle.comparison_types.specs.Call.{Said, says, workspaceRows, pairFault, compareRead, unlessFault, comparison}
 use Rattle.pair_bytes.specs.Pair.{follow}
 use Rattle.pair_bytes.specs.Table.{unlessRefused}
 use Rattle.pair_bytes.specs.Limits.{ReadFarEnough}

@@ -9,7 +9,8 @@ use mathlib.Core.List.{List, [], _∷_}
 use lib.Dec.{ltb}
 use Rattle.record_format.specs.Reading.{read, qubits, gates}
 use Rattle.amplitude.specs.Circuit.{hGates}
-use Rattle.comparison_types.specs.Call.{PairFault, pairRow, pairFault}
+use Rattle.record_format.specs.Pair.{PairFault, pairRow}
+use Rattle.comparison_types.specs.Call.{pairFault}
 use Rattle.dense_meaning.specs.Limits.{blockQubits, blockHGates, bufferSize}
 use Rattle.dense_types.specs.Call.{says, compareColumns, blockRows, denseComparison}
 use Rattle.pair_bytes.specs.Pair.{follow}

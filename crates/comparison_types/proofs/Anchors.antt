@@ -13,7 +13,8 @@ use Rattle.record_format.specs.Reading.{accepted}
 use Rattle.amplitude.specs.Circuit.{tally}
 use Rattle.comparison_meaning.specs.Verdict as verdict
 use Rattle.comparison_meaning.specs.Verdict.{Result, equal, different, undecided, turned, number}
-use Rattle.comparison_types.specs.Call.{verdictNumber, verdictOf, workspaceRows, pairFault, PairFault, ofPair, says, refuses, leftBy, Choice, theFirst, theSecond, choice, pickedAt}
+use Rattle.record_format.specs.Pair.{PairFault, ofPair}
+use Rattle.comparison_types.specs.Call.{verdictNumber, verdictOf, workspaceRows, pairFault, says, refuses, leftBy, Choice, theFirst, theSecond, choice, pickedAt}
 use Rattle.comparison_types.specs.declared.Verdict.{Verdict}
 use Rattle.comparison_types.specs.declared.Verdict.the-variants.{Equal, Different, Undecided, Turned}
 

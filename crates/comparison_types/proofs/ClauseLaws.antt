@@ -31,7 +31,8 @@ use Rattle.comparison_meaning.specs.Reduction.{pinned, reduceEnd}
 use Rattle.comparison_meaning.specs.Verdict.{Result, miter, judge, compare}
 use Rattle.comparison_meaning.specs.Demands.{Accepted, Demands, OnePower, ByTheSteps, InputsAsSaid, CliffordIsDecided, CountsAddUp, StepsWithinHGates}
 use Rattle.comparison_meaning.proofs.Bytes.{demands-pair}
-use Rattle.comparison_types.specs.Call.{PairFault, says, refuses, faultOf, resultOf, saidOf, pairRows, workspaceRows, pairFault, compareRead, unlessFault, comparison}
+use Rattle.record_format.specs.Pair.{PairFault}
+use Rattle.comparison_types.specs.Call.{says, refuses, faultOf, resultOf, saidOf, pairRows, workspaceRows, pairFault, compareRead, unlessFault, comparison}
 use Rattle.comparison_types.specs.Clauses.{ForResult, Right, Sound, Stops, Inputs, Clifford, CountsUp}
 use Rattle.comparison_types.specs.Inner.{AcceptedWith, foundFault, PairRead}
 use Rattle.comparison_types.specs.declared.Outcome.{Outcome}

@@ -26,7 +26,8 @@ use Rattle.record_format.proofs.Parts.{gates-of-part}
 use Rattle.amplitude.specs.Circuit.{hGates}
 use Rattle.gate_counting.proofs.Tallying.{h-gates-few}
 use Rattle.phase_sum_meaning.specs.Room.{mostVariables, places}
-use Rattle.comparison_types.specs.Call.{PairFault, inFirst, inSecond, ofPair, faultOf, pairRows, workspaceRows, pairFault}
+use Rattle.record_format.specs.Pair.{PairFault, inFirst, inSecond, ofPair}
+use Rattle.comparison_types.specs.Call.{faultOf, pairRows, workspaceRows, pairFault}
 use Rattle.comparison_types.specs.Inner.{AcceptedWith, foundFault}
 use Rattle.comparison_types.specs.declared.Refusal.{Refusal}
 use Rattle.comparison_types.specs.declared.PairCheck.{PairCheck}

@@ -20,7 +20,8 @@ use Rattle.amplitude.specs.Circuit.{hGates, tGates, column, Carries}
 use Rattle.amplitude.proofs.Linear.{ω^-zero}
 use Rattle.comparison_meaning.specs.Demands.{Accepted}
 use Rattle.comparison_meaning.specs.Verdict.{Result}
-use Rattle.comparison_types.specs.Call.{PairFault, ofPair, faultOf, Said, says, refuses, verdictOf, resultOf, saidOf, workspaceRows, pairFault, compareRead, unlessFault, comparison, leftBy, better, Choice, theFirst, theSecond, nothing, isEqual, choice, picked, ownBytes, pickedPart, pickedAt}
+use Rattle.record_format.specs.Pair.{PairFault, ofPair}
+use Rattle.comparison_types.specs.Call.{faultOf, Said, says, refuses, verdictOf, resultOf, saidOf, workspaceRows, pairFault, compareRead, unlessFault, comparison, leftBy, better, Choice, theFirst, theSecond, nothing, isEqual, choice, picked, ownBytes, pickedPart, pickedAt}
 use Rattle.comparison_types.specs.Clauses.{Sound, PickIsRight, EmptyIfRefused}
 use Rattle.comparison_types.specs.Inner.{AcceptedWith, ComparedRead}
 use Rattle.comparison_types.specs.declared.Verdict.{Verdict}

@@ -15,7 +15,8 @@ use Rattle.record_format.specs.Promises.{NoneHolds}
 use Rattle.record_format.proofs.Rows.{none-holds, first-holds, first-none, first-some, none-left, none-right, first-is, first-told}
 use Rattle.record_format.proofs.Theorems.{accepted-by-no-row, refusalOf, refusal-back}
 use Rattle.comparison_meaning.specs.Verdict.{Result, compare}
-use Rattle.comparison_types.specs.Call.{PairFault, inFirst, inSecond, ofPair, faultOf, says, refuses, pairRows, workspaceRows, pairFault, compareRead, unlessFault, comparison}
+use Rattle.record_format.specs.Pair.{PairFault, inFirst, inSecond, ofPair}
+use Rattle.comparison_types.specs.Call.{faultOf, says, refuses, pairRows, workspaceRows, pairFault, compareRead, unlessFault, comparison}
 use Rattle.comparison_types.specs.Promises.{pairTable, callRows, PairRefusedByFirstRow, PairAcceptedByNoRow, FirstListsFault, SecondListsFault, PairFaultTells}
 use Rattle.comparison_types.specs.declared.Refusal.{Refusal}
 use Rattle.comparison_types.specs.declared.Refusal.the-variants.{First, Second, QubitsDiffer, TooManyVariables, BlockTooLarge, WorkspaceShort}

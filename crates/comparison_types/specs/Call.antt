@@ -8,9 +8,10 @@ use mathlib.Core.List.{List, [], _∷_, _++_}
 use lib.ListN.{length, take, drop, replicate}
 use lib.Dec.{eqb, ltb}
 use Rattle.record_format.specs.Gate.{Gate}
-use Rattle.record_format.specs.Row.{Fault, Row, first}
+use Rattle.record_format.specs.Row.{Row, first}
 use Rattle.record_format.specs.Reading.{Reading, accepted, refused, read, count, size}
 use Rattle.record_format.specs.Answer as list
+use Rattle.record_format.specs.Pair.{PairFault, inFirst, inSecond, ofPair, numberIn, pairRow}
 use Rattle.amplitude.specs.Circuit.{hGates, tGates}
 use Rattle.phase_sum_meaning.specs.Room.{mostVariables, places}
 use Rattle.comparison_meaning.specs.Verdict as verdict
@@ -22,17 +23,6 @@ use Rattle.comparison_types.specs.declared.Refusal.{Refusal}
 use Rattle.comparison_types.specs.declared.Refusal.the-variants.{QubitsDiffer, TooManyVariables, BlockTooLarge, WorkspaceShort}
 use Rattle.comparison_types.specs.declared.Answer.{Answer}
 use Rattle.comparison_types.specs.declared.Answer.the-variants.{Compared, Refused}
-
--- why a pair is refused: a fault of the first list or of the second, or a number of the two together and of the workspaces
-pub data PairFault : Type 0 where
-  inFirst inSecond : Fault → PairFault
-  ofPair : ℕ → PairFault
-
--- its number
-abbrev pub numberIn : PairFault → ℕ
-numberIn (inFirst f) = f .number
-numberIn (inSecond f) = f .number
-numberIn (ofPair k) = k
 
 -- what a refusal says: the list, the number and the index, or the pair's number
 abbrev pub faultOf : Refusal → PairFault
@@ -81,10 +71,6 @@ resultOf o =
 abbrev pub saidOf : Answer → Said
 saidOf (Compared o) = says (resultOf o)
 saidOf (Refused r) = refuses (faultOf r)
-
--- a row of the table for a pair
-abbrev pub pairRow : ℕ → Bool → Row PairFault
-pairRow k c = record { fault = ofPair k; when = c }
 
 -- the table's rows for a pair of accepted lists on n and m qubits
 abbrev pub pairRows : ℕ → ℕ → List Gate → List Gate → List (Row PairFault)

@@ -10,7 +10,8 @@ use Rattle.record_format.specs.Reading.{accepted, read}
 use Rattle.amplitude.specs.Circuit.{Carries, tGates}
 use Rattle.comparison_meaning.specs.Demands.{Accepted, OnePower, EqualIsRight, TurnedIsRight, DifferentIsRight, ByTheSteps, InputsAsSaid, CliffordIsDecided, CountsAddUp, StepsWithinHGates}
 use Rattle.comparison_meaning.specs.Verdict.{Result}
-use Rattle.comparison_types.specs.Call.{PairFault, comparison, says, refuses, resultOf}
+use Rattle.record_format.specs.Pair.{PairFault}
+use Rattle.comparison_types.specs.Call.{comparison, says, refuses, resultOf}
 use Rattle.comparison_types.specs.declared.Outcome.{Outcome}
 use Rattle.comparison_types.specs.declared.Answer.{Answer}
 use Rattle.comparison_types.specs.declared.Answer.the-variants.{Compared}

@@ -15,7 +15,8 @@ use Rattle.phase_sum_meaning.specs.Stepping.{replace, takeOut, turned, kindOf, 
 use Rattle.phase_sum_types.specs.Workspace.{setOf, parityOf, Lent, members, sumOf, Sized}
 use Rattle.comparison_meaning.specs.Reduction as reduction
 use Rattle.comparison_meaning.specs.Verdict.{weight, firstDiffering}
-use Rattle.comparison_types.specs.Call.{PairFault, faultOf}
+use Rattle.record_format.specs.Pair.{PairFault}
+use Rattle.comparison_types.specs.Call.{faultOf}
 use Rattle.phase_sum_types.specs.declared.Sum.{Sum}
 use Rattle.phase_sum_types.specs.declared.Parity.{Parity as ParityWord}
 use Rattle.comparison_types.specs.declared.Answer.{Answer}

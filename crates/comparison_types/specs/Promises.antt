@@ -5,26 +5,27 @@ use mathlib.Core.Path.{_≡_}
 use mathlib.Core.Logic.{_↔_}
 use Prim.Native.Nat.{ℕ, _+_}
 use mathlib.Core.Bool.{not, _||_}
-use mathlib.Core.List.{List, [], _∷_, _++_, map}
+use mathlib.Core.List.{List, [], _∷_}
 use lib.Dec.{eqb, ltb}
 use Rattle.record_format.specs.Gate.{Gate}
-use Rattle.record_format.specs.Row.{Fault, Row, told}
-use Rattle.record_format.specs.Reading.{qubits, gates, recordRows, accepted, refused, read}
+use Rattle.record_format.specs.Row.{Fault, Row}
+use Rattle.record_format.specs.Reading.{qubits, gates, accepted, refused, read}
 use Rattle.record_format.specs.Promises.{NoneHolds, FirstHolds}
 use Rattle.amplitude.specs.Circuit.{hGates}
 use Rattle.phase_sum_meaning.specs.Room.{mostVariables, places}
 use Rattle.comparison_meaning.specs.Verdict.{Result, compare}
-use Rattle.comparison_types.specs.Call.{PairFault, inFirst, inSecond, faultOf, pairRow, says, refuses, comparison}
+use Rattle.record_format.specs.Pair.{PairFault, inFirst, inSecond, pairRow, bothRows}
+use Rattle.comparison_types.specs.Call.{faultOf, says, refuses, comparison}
 use Rattle.comparison_types.specs.declared.Refusal.{Refusal}
 
 -- the table for two records: the checks on the first list, those on the second, then 8, 9, and the rows that a call has below them
 abbrev pub pairTable : List ℕ → List ℕ → List (Row PairFault) → List (Row PairFault)
 pairTable s t below =
-    map (told inFirst) (recordRows s)
-    ++ map (told inSecond) (recordRows t)
-    ++ pairRow 8 (not (eqb (qubits s) (qubits t)))
+    bothRows s t (
+    pairRow 8 (not (eqb (qubits s) (qubits t)))
     ∷ pairRow 9 (ltb mostVariables (qubits s + (hGates (gates s) + hGates (gates t))))
     ∷ below
+    )
 
 -- the whole table for the bytes s and t and workspaces of w and c places
 abbrev pub callRows : List ℕ → List ℕ → ℕ → ℕ → List (Row PairFault)

@@ -9,7 +9,7 @@ use Rattle.record_format.specs.Row.{first}
 use Rattle.record_format.specs.Reading.{qubits, gates}
 use Rattle.record_format.proofs.Theorems.{passed}
 use Rattle.amplitude.specs.Circuit.{hGates}
-use Rattle.comparison_types.specs.Call.{ofPair}
+use Rattle.record_format.specs.Pair.{ofPair}
 use Rattle.comparison_types.specs.Inner.{AcceptedWith}
 use Rattle.dense_meaning.specs.Limits.{blockQubits, blockHGates, bufferSize}
 use Rattle.dense_types.specs.Call.{blockRows}

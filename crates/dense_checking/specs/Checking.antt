@@ -5,7 +5,8 @@ use Prim.Native.Nat.{ℕ, _+_, _≤_}
 use mathlib.Core.Option.{Option, none, some}
 use mathlib.Core.List.{List}
 use Rattle.amplitude.specs.Circuit.{hGates}
-use Rattle.comparison_types.specs.Call.{PairFault, faultOf}
+use Rattle.record_format.specs.Pair.{PairFault}
+use Rattle.comparison_types.specs.Call.{faultOf}
 use Rattle.comparison_types.specs.Inner.{AcceptedWith}
 use Rattle.dense_meaning.specs.Limits.{blockQubits, blockHGates, bufferSize}
 use Rattle.dense_checking.specs.declared.BlockCheck.{BlockCheck}

@@ -3,7 +3,7 @@
 use mathlib.Core.Path.{_≡_, refl}
 use mathlib.Core.Bool.{Bool, true, false}
 use mathlib.Core.Option.{Option, none, some}
-use Rattle.comparison_types.specs.Call.{PairFault}
+use Rattle.record_format.specs.Pair.{PairFault}
 use Rattle.dense_types.specs.Call.{Found, says, unlessFault}
 use Rattle.pair_bytes.specs.Table.{unlessRefused}
 use Rattle.pair_bytes.specs.Inner.{withTwelve}

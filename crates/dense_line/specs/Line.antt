@@ -3,7 +3,7 @@
 -- Assumes nothing.
 use Prim.Native.Nat.{ℕ}
 use mathlib.Core.List.{List, [], _∷_}
-use Rattle.comparison_types.specs.Call.{numberIn}
+use Rattle.record_format.specs.Pair.{numberIn}
 use Rattle.dense_types.specs.Call.{Said, says, refuses}
 use Rattle.line_bytes.specs.Line.{lineWith, refusedLine}
 use Rattle.verdict_line.specs.Word.{verdictWord}

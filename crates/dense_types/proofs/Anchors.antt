@@ -11,7 +11,8 @@ use Rattle.record_format.specs.Row.{first}
 use Rattle.record_format.specs.Reading.{raws, recordRows, allGateRows, read}
 use Rattle.amplitude.specs.Circuit.{tally}
 use Rattle.comparison_meaning.specs.Verdict.{equal, different, turned}
-use Rattle.comparison_types.specs.Call.{PairFault, ofPair, pairFault}
+use Rattle.record_format.specs.Pair.{PairFault, ofPair}
+use Rattle.comparison_types.specs.Call.{pairFault}
 use Rattle.dense_meaning.specs.Columns.{carriedBy, unfitAt}
 use Rattle.dense_types.specs.Call.{found, says, refuses, blockRows, leftBy}
 

@@ -9,7 +9,7 @@ use Rattle.record_format.specs.Row.{first}
 use Rattle.record_format.specs.Reading.{qubits, gates}
 use Rattle.record_format.specs.Promises.{NoneHolds}
 use Rattle.record_format.proofs.Rows.{none-holds, first-holds}
-use Rattle.comparison_types.specs.Call.{PairFault}
+use Rattle.record_format.specs.Pair.{PairFault}
 use Rattle.comparison_types.proofs.Theorems.{table-is}
 use Rattle.dense_types.specs.Call.{says, refuses, blockRows, compareColumns, denseComparison}
 use Rattle.dense_types.specs.Promises.{denseRows, BlockRefusedByFirstRow, BlockAcceptedByNoRow}

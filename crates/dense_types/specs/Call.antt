@@ -12,7 +12,8 @@ use Rattle.record_format.specs.Row.{Row}
 use Rattle.record_format.specs.Reading.{qubits, gates, read}
 use Rattle.amplitude.specs.Circuit.{hGates}
 use Rattle.comparison_meaning.specs.Verdict.{Verdict, different, agreement}
-use Rattle.comparison_types.specs.Call.{PairFault, pairRow, pairFault, faultOf, verdictOf}
+use Rattle.record_format.specs.Pair.{PairFault, pairRow}
+use Rattle.comparison_types.specs.Call.{pairFault, faultOf, verdictOf}
 use Rattle.dense_meaning.specs.Limits.{blockQubits, blockHGates, bufferSize}
 use Rattle.dense_meaning.specs.Columns.{Finding, carriedBy, unfitAt, finding}
 use Rattle.dense_types.specs.declared.Outcome.{Outcome}

@@ -7,7 +7,7 @@ use mathlib.Core.List.{List}
 use Rattle.record_format.specs.Row.{Row}
 use Rattle.record_format.specs.Reading.{qubits, gates}
 use Rattle.record_format.specs.Promises.{NoneHolds, FirstHolds}
-use Rattle.comparison_types.specs.Call.{PairFault}
+use Rattle.record_format.specs.Pair.{PairFault}
 use Rattle.comparison_types.specs.Promises.{pairTable}
 use Rattle.dense_types.specs.Call.{Found, says, refuses, compareColumns, blockRows, denseComparison}
 

@@ -13,7 +13,8 @@ use Rattle.record_format.specs.Row.{Fault, Row, told, first}
 use Rattle.record_format.specs.Reading.{Reading, qubits, gates, recordRows, accepted, refused, unless, read}
 use Rattle.record_format.proofs.Rows.{first-none, first-some, first-told, AllFaults, first-is}
 use Rattle.record_format.proofs.Theorems.{passed}
-use Rattle.comparison_types.specs.Call.{PairFault, inFirst, inSecond, ofPair, pairRow, pairRows, pairFault}
+use Rattle.record_format.specs.Pair.{PairFault, inFirst, inSecond, ofPair, pairRow}
+use Rattle.comparison_types.specs.Call.{pairRows, pairFault}
 use Rattle.line_bytes.specs.Line.{refusedLine}
 use Rattle.pair_bytes.specs.Pair.{follow, firstOf, secondOf}
 use Rattle.pair_bytes.specs.Table.{programTable, unlessRefused}

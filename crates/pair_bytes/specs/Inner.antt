@@ -3,7 +3,7 @@
 use Prim.Native.Nat.{ℕ}
 use mathlib.Core.Bool.{Bool, true, false, cond, _&&_}
 use mathlib.Core.Option.{Option, none, some}
-use Rattle.comparison_types.specs.Call.{PairFault, inFirst, inSecond, ofPair, numberIn}
+use Rattle.record_format.specs.Pair.{PairFault, inFirst, inSecond, ofPair, numberIn}
 
 -- both lists were read: the fault is in neither of them
 abbrev pub wereRead : PairFault → Bool

@@ -6,7 +6,8 @@ use mathlib.Core.Option.{Option, none, some}
 use mathlib.Core.List.{List, _∷_, _++_, map}
 use Rattle.record_format.specs.Row.{Row, told}
 use Rattle.record_format.specs.Reading.{qubits, gates, recordRows}
-use Rattle.comparison_types.specs.Call.{PairFault, inFirst, inSecond, numberIn, pairRow, pairRows}
+use Rattle.record_format.specs.Pair.{PairFault, inFirst, inSecond, numberIn, pairRow}
+use Rattle.comparison_types.specs.Call.{pairRows}
 use Rattle.line_bytes.specs.Line.{refusedLine}
 use Rattle.pair_bytes.specs.Pair.{follow}
 

@@ -199,7 +199,7 @@ added-gate-index r l n i gs f is = (forth, back)
         let apart : (length gs ≡ mostGates → ⊥) = λ full. omega arith in
         let stops : first (rows r l n gs is) ≡ some f =
         first-to-add r l n (length gs) (there r l n gs is) ∙ rw (ne-eqb (length gs) mostGates apart) bad in
-        (ap (λ (o : Outcome). o .answer) (write-refused _ _ l f stops), gate-index n (length gs) r f bad ∙ ap some (sym same))
+        (ap (λ (o : Outcome Fault). o .answer) (write-refused _ _ l f stops), gate-index n (length gs) r f bad ∙ ap some (sym same))
 
 -- a record's own fault is that of every call that reads it
 pub records-fault-is-kept : RecordsFaultIsKept
@@ -207,8 +207,8 @@ unfolding add inverse
 records-fault-is-kept s f is =
     let stops = stopped s f is in (
       rw is,
-      λ r. ap (λ (o : Outcome). o .answer) (write-refused _ _ s f (first-some (recordRows s) _ f stops)),
-      λ buffer. ap (λ (o : Outcome). o .answer) (write-refused _ _ buffer f stops),
+      λ r. ap (λ (o : Outcome Fault). o .answer) (write-refused _ _ s f (first-some (recordRows s) _ f stops)),
+      λ buffer. ap (λ (o : Outcome Fault). o .answer) (write-refused _ _ buffer f stops),
     )
 
 -- the faults of a record have an index exactly where they are a gate's

@@ -28,7 +28,7 @@ use Rattle.record_format.proofs.Storing.{behind-head}
 use Rattle.record_format.proofs.Reading.{Accepts, refuses-by}
 
 -- a writer that is refused by a fault leaves the buffer l alone
-abbrev pub turnedDown : Fault → List ℕ → Outcome
+abbrev pub turnedDown : {F : Type 0} → F → List ℕ → Outcome F
 turnedDown f l = record { answer = refuses f; buffer = l }
 
 -- a writer with no row of its own is refused where the buffer is shorter than its k bytes

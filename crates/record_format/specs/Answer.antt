@@ -16,10 +16,10 @@ use Rattle.record_format.specs.declared.ReportRead.the-variants.{Fields}
 use Rattle.record_format.specs.declared.gate.GateCheck.{GateCheck}
 use Rattle.record_format.specs.declared.gate.GateCheck.the-variants.{Good}
 
--- what a call answers: its values, or why it is refused and nothing else
-pub data Answer : Type 0 where
-  gives : List ℕ → Answer
-  refuses : Fault → Answer
+-- what a call answers: its values, or why it is refused and nothing else; a fault of records, or one of another type F
+pub data Answer (F : Type 0) : Type 0 where
+  gives : List ℕ → Answer F
+  refuses : F → Answer F
 
 -- what a refusal says: the table's number, and the index of the gate that it names
 abbrev pub faultOf : Refusal → Fault
@@ -39,12 +39,12 @@ abbrev pub numberOf : Refusal → ℕ
 numberOf r = faultOf r .number
 
 -- what check answered
-abbrev pub checkedAnswer : Checked → Answer
+abbrev pub checkedAnswer : Checked → Answer Fault
 checkedAnswer (Accepted n g) = gives (n ∷ g ∷ [])
 checkedAnswer (Checked.Refused r) = refuses (faultOf r)
 
 -- what a writer answered
-abbrev pub writtenAnswer : Written → Answer
+abbrev pub writtenAnswer : Written → Answer Fault
 writtenAnswer (Length size) = gives (size ∷ [])
 writtenAnswer (Written.Refused r) = refuses (faultOf r)
 
@@ -54,7 +54,7 @@ fields r =
     r .verdict ∷ r .first ∷ r .second ∷ r .pins ∷ r .sums ∷ r .turns ∷ r .joins ∷ r .left ∷ []
 
 -- what the report reader answered
-abbrev pub reportAnswer : ReportRead → Answer
+abbrev pub reportAnswer : ReportRead → Answer Fault
 reportAnswer (Fields r) = gives (fields r)
 reportAnswer (ReportRead.Refused r) = refuses (faultOf r)
 

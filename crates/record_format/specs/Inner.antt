@@ -5,13 +5,13 @@ use mathlib.Core.List.{List, [], _∷_, _++_}
 use lib.ListN.{take, drop}
 use Rattle.record_format.specs.Format.{headSize, gateSize}
 use Rattle.record_format.specs.Gate.{Raw, inverseNumber}
-use Rattle.record_format.specs.Row.{first}
+use Rattle.record_format.specs.Row.{Fault, first}
 use Rattle.record_format.specs.Reading.{qubits, count, headRows}
 use Rattle.record_format.specs.Answer.{Answer, gives}
 use Rattle.record_format.specs.Writing.{faultOr, headBytes}
 
 -- what the checks on head and body answer
-abbrev pub headAnswer : List ℕ → Answer
+abbrev pub headAnswer : List ℕ → Answer Fault
 headAnswer s = faultOr (first (headRows s)) (gives (qubits s ∷ count s ∷ []))
 
 -- the bytes that adding writes: the head with one gate more, the old gates' bytes, the new gate's

@@ -41,7 +41,7 @@ reportIn s =
     }
 
 -- the report writer: 5, then 11
-unfoldable pub writeReport : Report → List ℕ → Outcome
+unfoldable pub writeReport : Report → List ℕ → Outcome Fault
 writeReport r buffer = write (row 5 (ltb lastVerdict (r .verdict)) ∷ []) (reportBytes r) buffer
 
 -- the report reader: 1, 2, 5
@@ -50,5 +50,5 @@ reportRows s =
     row 1 (ltb (length s) reportSize) ∷ row 2 (not (marked reportMark s)) ∷ row 5 (ltb lastVerdict (getD s 2 0)) ∷ []
 
 -- what the report reader answers
-unfoldable pub readReport : List ℕ → Answer
+unfoldable pub readReport : List ℕ → Answer Fault
 readReport s = faultOr (first (reportRows s)) (gives (fields (reportIn s)))

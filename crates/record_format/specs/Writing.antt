@@ -20,12 +20,12 @@ unfoldable pub encode : ℕ → List Gate → List ℕ
 encode n gs = headBytes n (length gs) ++ bodyBytes gs
 
 -- the values, unless a fault stops them
-abbrev pub faultOr : Option Fault → Answer → Answer
+abbrev pub faultOr : Option Fault → Answer Fault → Answer Fault
 faultOr none a = a
 faultOr (some f) a = refuses f
 
 -- the check call: n and g, or why the record is refused
-abbrev pub checkAnswer : Reading → Answer
+abbrev pub checkAnswer : Reading → Answer Fault
 checkAnswer (accepted n gs) = gives (n ∷ length gs ∷ [])
 checkAnswer (refused f) = refuses f
 
@@ -40,31 +40,31 @@ gatesAt (accepted n gs) p = (p .0, headSize + p .1)
 gatesAt (refused f) p = p
 
 -- what a writer answers, and what the lent buffer then holds
-pub record Outcome : Type 0 where
-  pub answer : Answer
+pub record Outcome (F : Type 0) : Type 0 where
+  pub answer : Answer F
   pub buffer : List ℕ
 
 -- a refused writer changes no byte; another writes the new record at the front, leaves all bytes after it unchanged, and
 -- returns its length
-abbrev pub outcome : Option Fault → List ℕ → List ℕ → Outcome
+abbrev pub outcome : {F : Type 0} → Option F → List ℕ → List ℕ → Outcome F
 outcome none new buffer = record { answer = gives (length new ∷ []); buffer = new ++ drop (length new) buffer }
 outcome (some f) new buffer = record { answer = refuses f; buffer = buffer }
 
 -- a writer's checks are its own rows and then, last, number 11: the buffer is shorter than the new record
-unfoldable pub write : List (Row Fault) → List ℕ → List ℕ → Outcome
+unfoldable pub write : List (Row Fault) → List ℕ → List ℕ → Outcome Fault
 write rows new buffer = outcome (first (rows ++ row 11 (ltb (length buffer) (length new)) ∷ [])) new buffer
 
 -- start: an empty record
-unfoldable pub start : ℕ → List ℕ → Outcome
+unfoldable pub start : ℕ → List ℕ → Outcome Fault
 start n buffer = write (row 3 (badQubits n) ∷ []) (encode n []) buffer
 
 -- add: one gate at the end of the record that stands in the buffer; the record is read first
-unfoldable pub add : Raw → List ℕ → Outcome
+unfoldable pub add : Raw → List ℕ → Outcome Fault
 add r buffer =
     write (recordRows buffer ++ row 4 (eqb (count buffer) mostGates) ∷ gateRows (qubits buffer) (count buffer) r)
     (encode (qubits buffer) (gates buffer ++ gateOf r ∷ []))
     buffer
 
 -- inverse: one record read, its inverse written into another buffer
-unfoldable pub inverse : List ℕ → List ℕ → Outcome
+unfoldable pub inverse : List ℕ → List ℕ → Outcome Fault
 inverse s buffer = write (recordRows s) (encode (qubits s) (inverseList (gates s))) buffer

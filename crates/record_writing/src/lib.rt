@@ -1,4 +1,5 @@
-// The record layer, writing: the builder (start, add) and the inverse.
+// The record layer, writing: the builder (start, add) and the inverse. The last two functions, which have a `requires`, are no calls: they are
+// public for `joining`, and `records` does not pass them on.
 mod builder;
 mod inverter;
 
@@ -16,7 +17,7 @@ use record_bytes::low_byte;
 use record_reading::LIST_MARK;
 
 // A record's head at the front of a buffer.
-fn write_head(buffer: &mut [u8], n: u8, g: u16)
+pub fn write_head(buffer: &mut [u8], n: u8, g: u16)
     requires { ⌜ headSize ≤ length (now buffer) ⌝ }
     ensures { λ _. ⌜ now (buffer .exit) ≡ headBytes n g ++ drop headSize (now (buffer .entry)) ⌝ }
 {
@@ -28,7 +29,7 @@ fn write_head(buffer: &mut [u8], n: u8, g: u16)
 }
 
 // A gate's three bytes at a place of a buffer.
-fn write_gate(buffer: &mut [u8], at: usize, kind: u8, a: u8, b: u8)
+pub fn write_gate(buffer: &mut [u8], at: usize, kind: u8, a: u8, b: u8)
     requires { ⌜ at + gateSize ≤ length (now buffer) ⌝ }
     ensures { λ _. ⌜ now (buffer .exit) ≡ take at (now (buffer .entry)) ++ kind ∷ a ∷ b ∷ drop (at + gateSize) (now (buffer .entry)) ⌝ }
 {

@@ -5,7 +5,8 @@ use mathlib.Core.List.{[], _∷_}
 use lib.ListN.{length}
 use Rattle.comparison_meaning.specs.Verdict.{turned, different, undecided}
 use Rattle.record_format.specs.Row.{fault, faultAt}
-use Rattle.comparison_types.specs.Call.{inFirst, inSecond, says, refuses}
+use Rattle.record_format.specs.Pair.{inFirst, inSecond}
+use Rattle.comparison_types.specs.Call.{says, refuses}
 use Rattle.line_bytes.specs.Line.{digits, fields, refusedLine}
 use Rattle.result_line.specs.Line.{lineOf}
 

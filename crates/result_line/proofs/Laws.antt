@@ -4,7 +4,8 @@ use mathlib.Core.Path.{_≡_, refl}
 use mathlib.Core.Bool.{Bool, true, false}
 use mathlib.Core.Option.{Option, none, some}
 use Rattle.comparison_meaning.specs.Verdict.{Result}
-use Rattle.comparison_types.specs.Call.{PairFault, says, unlessFault}
+use Rattle.record_format.specs.Pair.{PairFault}
+use Rattle.comparison_types.specs.Call.{says, unlessFault}
 use Rattle.pair_bytes.specs.Table.{unlessRefused}
 use Rattle.pair_bytes.specs.Inner.{withTwelve}
 use Rattle.result_line.specs.Line.{lineOf}

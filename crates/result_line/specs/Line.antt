@@ -2,7 +2,8 @@
 -- Assumes nothing.
 use Prim.Native.Nat.{ℕ}
 use mathlib.Core.List.{List, [], _∷_}
-use Rattle.comparison_types.specs.Call.{Said, says, refuses, numberIn}
+use Rattle.record_format.specs.Pair.{numberIn}
+use Rattle.comparison_types.specs.Call.{Said, says, refuses}
 use Rattle.line_bytes.specs.Line.{lineWith, refusedLine}
 use Rattle.verdict_line.specs.Word.{verdictWord}
 

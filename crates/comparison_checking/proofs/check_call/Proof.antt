@@ -6,7 +6,8 @@ use mathlib.Core.Bool.{Bool, true, false, cond}
 use mathlib.Core.Option.{none, some}
 use borrow.Author.Needs.{needs}
 use Rattle.record_format.specs.Reading.{read}
-use Rattle.comparison_types.specs.Call.{ofPair, workspaceRows, pairFault}
+use Rattle.record_format.specs.Pair.{ofPair}
+use Rattle.comparison_types.specs.Call.{workspaceRows, pairFault}
 use Rattle.comparison_types.proofs.PairLaws.{call-refused, call-decides}
 use Rattle.comparison_checking.proofs.check_call.Statement.{statement}
 use Rattle.comparison_checking.proofs.check_call.Tie as tie
