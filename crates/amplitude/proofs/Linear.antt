@@ -6,7 +6,7 @@ use mathlib.Core.Bool.{Bool, true, false, cond, _&&_}
 use mathlib.Core.List.{List, [], _∷_, _++_}
 use Prim.Native.Nat.{ℕ, _+_}
 use native.Mathlib.Omega.{arith}
-use Rattle.record_format.specs.Gate.{OneQubit, X, Y, Z, S, S†, T, T†, H, Gate, one, two, CX, CZ, SWAP, oneQubitKind, inverseKind, inverseGate, inverseList}
+use Rattle.record_format.specs.Gate.{OneQubit, X, Y, Z, S, S†, T, T†, H, Gate, one, two, CX, CZ, SWAP, oneQubitKind, inverseKind, inverseGate, inverseList, shiftGate, shiftList}
 use Rattle.record_format.proofs.GateLaws.{inverse-cons}
 use Rattle.amplitude.specs.Number.{Zω, 0ω, _+ω_, _*ω_, ω^, √2^}
 use Rattle.amplitude.specs.Bits.{bit, put}
@@ -166,4 +166,33 @@ tGates-inverse gs = tally-inverse isT same gs
   where
     same : (g : Gate) → isT (inverseGate g) ≡ isT g
     same (one u q) = kinds-inverse u q .1
+    same (two v a b) = refl
+
+-- a weight that qubits further on leave as it is stays that of the list
+pub tally-shift : (f : Gate → ℕ) (k : ℕ) → ((g : Gate) → f (shiftGate k g) ≡ f g) → (gs : List Gate) → tally f (shiftList k gs) ≡ tally f gs
+unfolding tally shiftList
+tally-shift f k same [] = refl
+tally-shift f k same (g ∷ gs) = rw (tally-shift f k same gs, same g)
+
+-- a kind is an H or a T gate whatever its qubit
+kinds-shift : (u : OneQubit) (a b : ℕ) → (isH (one u a) ≡ isH (one u b)) × (isT (one u a) ≡ isT (one u b))
+kinds-shift u a b =
+    elim u [ X ↦ (refl, refl) | Y ↦ (refl, refl) | Z ↦ (refl, refl) | S ↦ (refl, refl) | S† ↦ (refl, refl) | T ↦ (refl, refl) | T† ↦ (refl, refl) | H ↦ (refl, refl) ]
+
+-- qubits further on leave the H gates of a list
+pub hGates-shift : (k : ℕ) (gs : List Gate) → hGates (shiftList k gs) ≡ hGates gs
+unfolding shiftGate
+hGates-shift k gs = tally-shift isH k same gs
+  where
+    same : (g : Gate) → isH (shiftGate k g) ≡ isH g
+    same (one u a) = kinds-shift u (k + a) a .0
+    same (two v a b) = refl
+
+-- and its T gates
+pub tGates-shift : (k : ℕ) (gs : List Gate) → tGates (shiftList k gs) ≡ tGates gs
+unfolding shiftGate
+tGates-shift k gs = tally-shift isT k same gs
+  where
+    same : (g : Gate) → isT (shiftGate k g) ≡ isT g
+    same (one u a) = kinds-shift u (k + a) a .1
     same (two v a b) = refl

@@ -3,16 +3,17 @@
 use mathlib.Core.Path.{_≡_, refl, sym, ap, _∙_}
 use Prim.Native.Nat.{ℕ}
 use native.Mathlib.Omega.{arith}
-use mathlib.Core.Bool.{Bool, true, false, cond, not, true≢false}
-use mathlib.Core.Option.{Option, none, some, Option·map, map-eq-none-iff}
-use mathlib.Core.List.{List, _++_, map}
+use mathlib.Core.Bool.{Bool, true, false, cond, true≢false}
+use mathlib.Core.Option.{Option, none, some}
+use mathlib.Core.List.{List, _++_}
 use lib.Dec.{eqb}
-use borrow.Author.Tests.{eqb-true}
+use borrow.Author.Tests.{eqb-true, not-false}
 use Rattle.record_format.specs.Gate.{Gate}
-use Rattle.record_format.specs.Row.{Fault, Row, told, first}
+use Rattle.record_format.specs.Row.{Fault, Row, first}
 use Rattle.record_format.specs.Reading.{Reading, qubits, gates, recordRows, accepted, refused, unless, read}
 use Rattle.record_format.specs.Promises.{NoneHolds}
-use Rattle.record_format.proofs.Rows.{none-holds, first-holds, first-none, first-some, none-left, none-right, first-is, first-told}
+use Rattle.record_format.proofs.Rows.{none-holds, first-holds, first-is}
+use Rattle.record_format.proofs.Pairs.{both-first, both-second, both-good, both-pass}
 use Rattle.record_format.proofs.Theorems.{accepted-by-no-row, refusalOf, refusal-back}
 use Rattle.comparison_meaning.specs.Verdict.{Result, compare}
 use Rattle.record_format.specs.Pair.{PairFault, inFirst, inSecond, ofPair}
@@ -21,52 +22,33 @@ use Rattle.comparison_types.specs.Promises.{pairTable, callRows, PairRef
 use Rattle.comparison_types.specs.declared.Refusal.{Refusal}
 use Rattle.comparison_types.specs.declared.Refusal.the-variants.{First, Second, QubitsDiffer, TooManyVariables, BlockTooLarge, WorkspaceShort}
 
--- a record's rows, told otherwise, give no fault only where the record has none
-untold : (g : Fault → PairFault) (rows : List (Row Fault)) → first (map (told g) rows) ≡ none → first rows ≡ none
-untold g rows e = map-eq-none-iff g (first rows) .0 (sym (first-told g rows) ∙ e)
-
 module _ (s t : List ℕ) (below : List (Row PairFault)) where
-  -- the rows of the first list
-  abbrev ofFirst : List (Row PairFault)
-  ofFirst = map (told inFirst) (recordRows s)
-
-  -- those of the second
-  abbrev ofSecond : List (Row PairFault)
-  ofSecond = map (told inSecond) (recordRows t)
-
-  -- and those under them
+  -- the rows under those of the two lists
   abbrev under : List (Row PairFault)
   under = pairRows (qubits s) (qubits t) (gates s) (gates t) ++ below
 
   -- what the checks find is the first row of the whole table that holds
   pub table-is : pairFault (read s) (read t) below ≡ first (pairTable s t below)
   unfolding read pairFault
-  table-is = go (first (recordRows s)) (first (recordRows t)) (first-told inFirst (recordRows s)) (first-told inSecond (recordRows t))
+  table-is = go (first (recordRows s)) (first (recordRows t)) refl refl
     where
-      go : (o p : Option Fault) → first ofFirst ≡ Option·map inFirst o → first ofSecond ≡ Option·map inSecond p
+      go : (o p : Option Fault) → first (recordRows s) ≡ o → first (recordRows t) ≡ p
           → pairFault (unless o (accepted (qubits s) (gates s))) (unless p (accepted (qubits t) (gates t))) below
           ≡ first (pairTable s t below)
-      go (some f) p e d = sym (first-some (ofFirst ++ ofSecond) under (inFirst f) (first-some ofFirst ofSecond (inFirst f) e))
-      go none (some f) e d = sym (first-some (ofFirst ++ ofSecond) under (inSecond f) (first-none ofFirst ofSecond e ∙ d))
-      go none none e d = sym (first-none (ofFirst ++ ofSecond) under (first-none ofFirst ofSecond e ∙ d))
+      go (some f) p e d = sym (both-first s t under f e)
+      go none (some f) e d = sym (both-second s t under f e d)
+      go none none e d = sym (both-good s t under e d)
 
   -- where no row holds, both lists are accepted, on the same qubits
   module _ (e : first (pairTable s t below) ≡ none) where
-    lists : first (ofFirst ++ ofSecond) ≡ none
-    lists = none-left (ofFirst ++ ofSecond) under e
-
     pub first-accepted : read s ≡ accepted (qubits s) (gates s)
-    first-accepted = accepted-by-no-row s .1 (none-holds (recordRows s) .0 (untold inFirst (recordRows s) (none-left ofFirst ofSecond lists)))
+    first-accepted = accepted-by-no-row s .1 (none-holds (recordRows s) .0 (both-pass s t under e .0))
 
     pub second-accepted : read t ≡ accepted (qubits t) (gates t)
-    second-accepted = accepted-by-no-row t .1 (none-holds (recordRows t) .0 (untold inSecond (recordRows t) (none-right ofFirst ofSecond lists)))
+    second-accepted = accepted-by-no-row t .1 (none-holds (recordRows t) .0 (both-pass s t under e .1))
 
     pub same-qubits : qubits s ≡ qubits t
-    same-qubits = eqb-true (qubits s) (qubits t) (go _ (none-holds under .0 (none-right (ofFirst ++ ofSecond) under e) .0))
-      where
-        go : (b : Bool) → not b ≡ false → b ≡ true
-        go true h = refl
-        go false h = absurd (true≢false h)
+    same-qubits = eqb-true (qubits s) (qubits t) (not-false _ (none-holds under .0 (both-pass s t under e .2) .0))
 
 module _ (s t : List ℕ) (w c : ℕ) where
   -- the result for the gates of both lists

@@ -5,7 +5,7 @@ use mathlib.Core.Path.{_≡_}
 use mathlib.Core.Logic.{_↔_}
 use Prim.Native.Nat.{ℕ, _+_}
 use mathlib.Core.List.{List, [], _∷_}
-use lib.ListN.{length, drop}
+use lib.ListN.{drop}
 use Rattle.record_format.specs.Row.{Fault, Row}
 use Rattle.record_format.specs.Reading.{size, count, accepted, refused, read}
 use Rattle.record_format.specs.Gate.{Gate}

@@ -1,12 +1,12 @@
--- Laws of gates that no byte comes into: inverting twice, and qubits that stay within n. The layers above cite them too.
+-- Laws of gates that no byte comes into: inverting twice, qubits further on, and qubits that stay within n. The layers above cite them too.
 -- Assumes nothing.
 use mathlib.Core.Path.{_≡_, refl}
-use Prim.Native.Nat.{ℕ, zero, suc, _<_}
+use Prim.Native.Nat.{ℕ, zero, suc, _+_, _<_}
 use mathlib.Core.List.{List, [], _∷_, _++_, map, map-append, reverse-cons, reverse-append}
 use lib.ListN.{length, length-map, length-reverse}
 use native.Mathlib.Omega.{arith}
 use borrow.Author.Tests.{ne-eqb, lt-leb}
-use Rattle.record_format.specs.Gate.{Gate, X, Y, Z, S, S†, T, T†, H, one, two, Within, AllWithin, raw, gateOf, inverseNumber, inverseKind, inverseGate, inverseList}
+use Rattle.record_format.specs.Gate.{Gate, X, Y, Z, S, S†, T, T†, H, one, two, Within, AllWithin, raw, gateOf, inverseNumber, inverseKind, inverseGate, inverseList, shiftGate, shiftList}
 
 -- a first gate's inverse comes last
 pub inverse-cons : (g : Gate) (gs : List Gate) → inverseList (g ∷ gs) ≡ inverseList gs ++ inverseGate g ∷ []
@@ -51,6 +51,25 @@ pub within-inverse : (n : ℕ) (gs : List Gate) → AllWithin n gs → AllWithin
 within-inverse n [] h = unfold inverseList in tt
 within-inverse n (g ∷ gs) (here, later) =
     rw inverse-cons (within-append n (inverseList gs) (inverseGate g ∷ []) (within-inverse n gs later) (gate-within-inverse n g here, tt))
+
+-- gates within n are within more qubits
+pub within-more : (n m : ℕ) (gs : List Gate) → AllWithin n gs → AllWithin (n + m) gs
+within-more n m [] h = tt
+within-more n m (one u a ∷ gs) (below, later) = (omega arith, within-more n m gs later)
+within-more n m (two v a b ∷ gs) ((a-below, b-below, differ), later) = ((omega arith, omega arith, differ), within-more n m gs later)
+
+-- gates within m are within n + m once their qubits are numbered n further on
+pub within-shift : (n m : ℕ) (gs : List Gate) → AllWithin m gs → AllWithin (n + m) (shiftList n gs)
+unfolding shiftList shiftGate
+within-shift n m [] h = tt
+within-shift n m (one u a ∷ gs) (below, later) = (omega arith, within-shift n m gs later)
+within-shift n m (two v a b ∷ gs) ((a-below, b-below, differ), later) =
+    ((omega arith, omega arith, λ e. differ (omega arith)), within-shift n m gs later)
+
+-- there are as many gates then
+pub length-shift : (k : ℕ) (gs : List Gate) → length (shiftList k gs) ≡ length gs
+unfolding shiftList
+length-shift k gs = length-map gs (shiftGate k)
 
 -- a gate's bytes with the kind inverted stand for the gate's inverse
 pub inverse-raw : (k a b : ℕ) → gateOf (raw (inverseNumber k) a b) ≡ inverseGate (gateOf (raw k a b))

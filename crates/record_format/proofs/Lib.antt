@@ -2,6 +2,7 @@
 pub mod Anchors
 pub mod GateLaws
 pub mod Rows
+pub mod Pairs
 pub mod Encoding
 pub mod Reading
 pub mod Storing

@@ -31,7 +31,7 @@ one-reading : {n : ℕ} {gs : List Gate} {f : Fault} → accepted n gs ≡ refus
 one-reading h = let z : _≡_ {A = ℕ} 0 1 = cc in omega arith
 
 -- an answer does not both give and refuse
-pub one-answer : {values : List ℕ} {f : Fault} → gives values ≡ refuses f → ⊥
+pub one-answer : {F : Type 0} {values : List ℕ} {f : F} → gives values ≡ refuses f → ⊥
 one-answer h = let z : _≡_ {A = ℕ} 0 1 = cc in omega arith
 
 -- an answer that refuses is that of the first fault

@@ -1,0 +1,2 @@
+-- Laws by topic, the promises and the contract's clauses, each proved, and worked cases by computation.
+pub mod ClauseLaws
