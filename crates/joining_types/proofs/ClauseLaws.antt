@@ -26,7 +26,7 @@ use Rattle.amplitude.specs.Circuit.{hGates, tGates, isH, isT}
 use Rattle.amplitude.proofs.Linear.{tally-append, hGates-shift, tGates-shift}
 use Rattle.amplitude.proofs.Composition.{in-time}
 use Rattle.amplitude.proofs.Tensor.{in-space}
-use Rattle.joining_types.specs.Call.{joinedAnswer, sizeRows, timeRows, spaceRows, listInTime, listInSpace, joinInTime, joinInSpace}
+use Rattle.joining_types.specs.Call.{joinedAnswer, sizeRows, timeRows, spaceRows, listInTime, listInSpace, timeRecord, spaceRecord, joinInTime, joinInSpace}
 use Rattle.joining_types.specs.Clauses.{AddsUp, InTime, InSpace, WhereWritten}
 use Rattle.joining_types.specs.declared.Joined.{Joined}
 
@@ -91,7 +91,7 @@ both-read s t l own none-stops =
     )
 
 -- where nothing stops a join in time, its record stands for the lists joined
-time-stands : (s t l after : List ℕ) → Stands (timeRows s t l) (encode (qubits s) (listInTime (gates s) (gates t))) l after → InTime s t after
+time-stands : (s t l after : List ℕ) → Stands (timeRows s t l) (timeRecord s t) l after → InTime s t after
 time-stands s t l after now =
     let (both, same) = both-read s t l (pairRow 8 (not (eqb (qubits s) (qubits t)))) (now .good) in
     let same-n : qubits s ≡ qubits t = eqb-true (qubits s) (qubits t) (not-false _ same) in
@@ -113,7 +113,7 @@ time-stands s t l after now =
 -- where nothing stops a join in space, so does its record
 space-stands :
     (s t l after : List ℕ)
-    → Stands (spaceRows s t l) (encode (qubits s + qubits t) (listInSpace (qubits s) (gates s) (gates t))) l after
+    → Stands (spaceRows s t l) (spaceRecord s t) l after
     → InSpace s t after
 space-stands s t l after now =
     let n = qubits s in
@@ -143,7 +143,7 @@ pub time-composed :
     → WhereWritten r (InTime s t (joinInTime s t l .buffer))
 unfolding joinInTime
 time-composed s t l r answers k is =
-    time-stands s t l _ (stands (timeRows s t l) (encode (qubits s) (listInTime (gates s) (gates t))) l (k ∷ []) (sym (rw is at answers)))
+    time-stands s t l _ (stands (timeRows s t l) (timeRecord s t) l (k ∷ []) (sym (rw is at answers)))
 
 -- and where a join in space did
 pub space-composed :
@@ -153,4 +153,4 @@ pub space-composed :
 unfolding joinInSpace
 space-composed s t l r answers k is =
     space-stands s t l _
-    (stands (spaceRows s t l) (encode (qubits s + qubits t) (listInSpace (qubits s) (gates s) (gates t))) l (k ∷ []) (sym (rw is at answers)))
+    (stands (spaceRows s t l) (spaceRecord s t) l (k ∷ []) (sym (rw is at answers)))

@@ -60,12 +60,18 @@ listInTime first second = first ++ second
 abbrev pub listInSpace : ℕ → List Gate → List Gate → List Gate
 listInSpace n first second = first ++ shiftList n second
 
+-- the new record of a join in time
+abbrev pub timeRecord : List ℕ → List ℕ → List ℕ
+timeRecord s t = encode (qubits s) (listInTime (gates s) (gates t))
+
+-- that of a join in space
+abbrev pub spaceRecord : List ℕ → List ℕ → List ℕ
+spaceRecord s t = encode (qubits s + qubits t) (listInSpace (qubits s) (gates s) (gates t))
+
 -- the join in time of the records at the start of s and t, written at the front of the buffer
 unfoldable pub joinInTime : List ℕ → List ℕ → List ℕ → Outcome PairFault
-joinInTime s t buffer =
-    outcome (first (timeRows s t buffer)) (encode (qubits s) (listInTime (gates s) (gates t))) buffer
+joinInTime s t buffer = outcome (first (timeRows s t buffer)) (timeRecord s t) buffer
 
 -- their join in space
 unfoldable pub joinInSpace : List ℕ → List ℕ → List ℕ → Outcome PairFault
-joinInSpace s t buffer =
-    outcome (first (spaceRows s t buffer)) (encode (qubits s + qubits t) (listInSpace (qubits s) (gates s) (gates t))) buffer
+joinInSpace s t buffer = outcome (first (spaceRows s t buffer)) (spaceRecord s t) buffer
