@@ -136,21 +136,26 @@ space-stands s t l after now =
       amplitudes = in-space n m (gates s) (gates t) (both .of-s .within);
     }
 
--- so it is where a join in time answered a length
+-- so it is where a join in time gives values
+pub time-written : (s t l values : List ℕ) → joinInTime s t l .answer ≡ gives values → InTime s t (joinInTime s t l .buffer)
+unfolding joinInTime
+time-written s t l values h = time-stands s t l _ (stands (timeRows s t l) (timeRecord s t) l values h)
+
+-- and where a join in space does
+pub space-written : (s t l values : List ℕ) → joinInSpace s t l .answer ≡ gives values → InSpace s t (joinInSpace s t l .buffer)
+unfolding joinInSpace
+space-written s t l values h = space-stands s t l _ (stands (spaceRows s t l) (spaceRecord s t) l values h)
+
+-- the clause of the join in time
 pub time-composed :
     (s t l : List ℕ) (r : Joined)
     → joinedAnswer r ≡ joinInTime s t l .answer
     → WhereWritten r (InTime s t (joinInTime s t l .buffer))
-unfolding joinInTime
-time-composed s t l r answers k is =
-    time-stands s t l _ (stands (timeRows s t l) (timeRecord s t) l (k ∷ []) (sym (rw is at answers)))
+time-composed s t l r answers k is = time-written s t l (k ∷ []) (sym (rw is at answers))
 
--- and where a join in space did
+-- and that of the join in space
 pub space-composed :
     (s t l : List ℕ) (r : Joined)
     → joinedAnswer r ≡ joinInSpace s t l .answer
     → WhereWritten r (InSpace s t (joinInSpace s t l .buffer))
-unfolding joinInSpace
-space-composed s t l r answers k is =
-    space-stands s t l _
-    (stands (spaceRows s t l) (spaceRecord s t) l (k ∷ []) (sym (rw is at answers)))
+space-composed s t l r answers k is = space-written s t l (k ∷ []) (sym (rw is at answers))

@@ -1,0 +1,2 @@
+-- The promises, each proved.
+pub mod Theorems

@@ -1,0 +1,2 @@
+-- The promises to users who compare by a join.
+pub mod Promises
