@@ -1,11 +1,11 @@
 -- Worked cases of the definitions, by computation: which row of the table comes first where several hold, the index of a refused
--- gate, what an inverse is, and which verdicts a report may carry.
+-- gate, what an inverse is, gates on qubits further on, and which verdicts a report may carry.
 -- Assumes nothing.
 use mathlib.Core.Path.{_≡_, refl}
 use Prim.Native.Nat.{ℕ}
 use mathlib.Core.List.{[], _∷_, _++_}
 use Rattle.record_format.specs.Format.{listMark}
-use Rattle.record_format.specs.Gate.{everyKind, one, two, S, S†, T†, T, H, CX, gateOf, inverseKind, inverseGate, inverseList}
+use Rattle.record_format.specs.Gate.{everyKind, one, two, X, Y, Z, S, S†, T†, T, H, CX, CZ, SWAP, gateOf, inverseKind, inverseGate, inverseList, shiftGate, shiftList}
 use Rattle.record_format.specs.Row.{fault, faultAt, first}
 use Rattle.record_format.specs.Reading.{raws, allGateRows, recordRows, accepted, refused, read}
 use Rattle.record_format.specs.Answer.{gives, refuses}
@@ -123,3 +123,21 @@ pub verdicts-written :
     × (writeReport (report 4) (reportBytes (report 0)) .answer ≡ refuses (fault 5))
 unfolding writeReport first write
 verdicts-written = (refl, refl)
+
+-- every kind of gate, three qubits further on
+pub every-kind-shifted :
+    shiftList 3 everyKind
+    ≡ one X 3
+    ∷ one Y 3
+    ∷ one Z 3
+    ∷ one S 3
+    ∷ one S† 3
+    ∷ one T 3
+    ∷ one T† 3
+    ∷ one H 3
+    ∷ two CX 3 4
+    ∷ two CZ 3 4
+    ∷ two SWAP 3 4
+    ∷ []
+unfolding shiftList shiftGate
+every-kind-shifted = refl
