@@ -1,12 +1,12 @@
--- Numbers in their coordinates, gates of every kind counted, and single amplitudes, by computation: facts that pin the conventions of the
--- definitions.
+-- Numbers in their coordinates, with products and a sum, gates of every kind counted, and single amplitudes, by computation: facts that
+-- pin the conventions of the definitions.
 -- Assumes nothing.
 use mathlib.Core.Path.{_≡_, refl}
 use mathlib.Core.Bool.{xor}
 use mathlib.Core.List.{[], _∷_, map}
 use lib.IntN.{ℤ, pos, negℤ}
 use Rattle.record_format.specs.Gate.{everyKind, one, two, X, Y, Z, T, H, CX, SWAP}
-use Rattle.amplitude.specs.Number.{Zω, whole, 0ω, 1ω, _+ω_, neg, mulω, ω^, mul√2, √2^, _*ω_}
+use Rattle.amplitude.specs.Number.{Zω, whole, 0ω, 1ω, _+ω_, neg, mulω, ω^, mul√2, √2^, _*ω_, sumBelow}
 use Rattle.amplitude.specs.Bits.{bit, put}
 use Rattle.amplitude.specs.Matrix.{matrix, entry, times}
 use Rattle.amplitude.specs.Circuit.{basis, apply, run, column, tally, isH, isT, hGates, tGates}
@@ -75,6 +75,11 @@ pub product-of-all :
     ≡ coordinates (negℤ (pos 56)) (negℤ (pos 36)) (pos 2) (pos 60)
 unfolding _*ω_
 product-of-all = refl
+
+-- the sum over 0, 1 and 2 of ω^u is 1 + ω + ω²
+pub sum-of-three : sumBelow 3 (λ u. ω^ u 1ω) ≡ coordinates (pos 1) (pos 1) (pos 1) (pos 0)
+unfolding sumBelow _+ω_ ω^ mulω 0ω 1ω whole
+sum-of-three = refl
 
 -- T multiplies input 1 by ω
 pub t-turns : column (one T 0 ∷ []) 1 1 ≡ ω^ 1 1ω
