@@ -124,3 +124,9 @@ below-some test (suc m) v f = go (decLt v m) (below-some test m v)
     go (no l) rest =
         let here : v ≡ m = omega (arith, f .inside) in
         rw (below-none test m (λ u k. f .before u (omega arith)), ← here, f .passes)
+
+-- tests that agree below m find the same number there
+pub same-below : (test other : ℕ → Bool) (m : ℕ) → ((v : ℕ) → v < m → test v ≡ other v) → firstBelow test m ≡ firstBelow other m
+unfolding firstBelow
+same-below test other zero same = refl
+same-below test other (suc m) same = rw (same-below test other m (λ v l. same v (omega arith)), same m (omega arith))

@@ -95,7 +95,7 @@ module _ (n : ℕ) (first second : List Gate) (l : AllWithin n first) (r : AllWi
   agrees decides = same-verdict _ _ _ _ (decided ends) (decided-unless n first second l r decides)
 
 -- an accepted record is within its qubits, and n and its gates are its own
-own : (s : List ℕ) (n : ℕ) (gs : List Gate) → read s ≡ accepted n gs → (qubits s ≡ n) × (gates s ≡ gs) × AllWithin n gs
+pub own : (s : List ℕ) (n : ℕ) (gs : List Gate) → read s ≡ accepted n gs → (qubits s ≡ n) × (gates s ≡ gs) × AllWithin n gs
 own s n gs e = (passed s n gs e .1, passed s n gs e .2, accepted-is-sound s n gs e .within)
 
 -- what the path sums compare is a pair of accepted lists on the same qubits
