@@ -1,2 +1,3 @@
--- The promises, each proved.
+-- The promises, each proved: of the path-sum comparison, then of the dense one.
 pub mod Theorems
+pub mod Dense

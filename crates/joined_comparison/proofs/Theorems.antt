@@ -1,4 +1,4 @@
--- The promises of specs/Promises.antt, each proved.
+-- The promise of specs/Promises.antt on the path-sum comparison, proved; and what reading shows of the lists of a join with an inverse.
 -- Assumes nothing.
 use mathlib.Core.Path.{_≡_, sym, ap, _∙_}
 use Prim.Native.Nat.{ℕ, _+_}
@@ -17,7 +17,7 @@ use Rattle.comparison_types.specs.Call.{pairFault, compareRead, workspaceRows}
 use Rattle.joined_comparison.specs.Promises.{inverted, joined, BothWritten, JoinedWithInverse}
 
 -- a list followed by the inverse of the empty one is the list
-miter-empty : (gs : List Gate) → miter gs [] ≡ gs
+pub miter-empty : (gs : List Gate) → miter gs [] ≡ gs
 miter-empty gs = unfold inverseList in append-nil gs
 
 -- so a pair's own list, the first followed by the second's inverse, has with the empty list what the pair has: the same result
@@ -26,18 +26,18 @@ unfolding compare
 compare-joined n first second = rw (miter-empty (miter first second))
 
 -- and as many H gates
-h-joined : (first second : List Gate) → hGates (miter first second) + hGates [] ≡ hGates first + hGates second
+pub h-joined : (first second : List Gate) → hGates (miter first second) + hGates [] ≡ hGates first + hGates second
 unfolding tally
 h-joined first second = add-zero (hGates (miter first second)) ∙ rw (tally-append, hGates-inverse)
 
 -- what reading shows of the lists of a join with an inverse
-record Lists (first second spare buffer : List ℕ) : Type 0 where
-  n : ℕ
-  gs : List Gate
-  hs : List Gate
-  reads-first : read first ≡ accepted n gs
-  reads-second : read second ≡ accepted n hs
-  reads-joined : read (joined first second spare buffer) ≡ accepted n (miter gs hs)
+pub record Lists (first second spare buffer : List ℕ) : Type 0 where
+  pub n : ℕ
+  pub gs : List Gate
+  pub hs : List Gate
+  pub reads-first : read first ≡ accepted n gs
+  pub reads-second : read second ≡ accepted n hs
+  pub reads-joined : read (joined first second spare buffer) ≡ accepted n (miter gs hs)
 
 -- the same bytes read as one n and one list
 one-list : (s : List ℕ) {n m : ℕ} {gs hs : List Gate} → read s ≡ accepted n gs → read s ≡ accepted m hs → (n ≡ m) × (gs ≡ hs)
@@ -47,7 +47,7 @@ one-list s {n} {m} {gs} {hs} e d =
     (sym same-n ∙ same-m, sym same-gates ∙ same-hs)
 
 -- they are the first list, the second, and their own list
-lists : (first second spare buffer : List ℕ) → BothWritten first second spare buffer → Lists first second spare buffer
+pub lists : (first second spare buffer : List ℕ) → BothWritten first second spare buffer → Lists first second spare buffer
 lists first second spare buffer both =
     let (m, hs, reads, reads-inverted, _) = inverse-reads-back second spare (both .values) (both .inverts) in
     let now = time-written first (inverted first second spare buffer) buffer (both .values′) (both .joins) in
@@ -62,7 +62,7 @@ lists first second spare buffer both =
     }
 
 -- the fault of a pair's own list with the empty one is the pair's
-fault-joined : (n : ℕ) (gs hs : List Gate) (below : List (Row PairFault))
+pub fault-joined : (n : ℕ) (gs hs : List Gate) (below : List (Row PairFault))
     → pairFault (accepted n (miter gs hs)) (accepted n []) below ≡ pairFault (accepted n gs) (accepted n hs) below
 unfolding pairFault
 fault-joined n gs hs below = rw (h-joined gs hs)
