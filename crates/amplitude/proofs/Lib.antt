@@ -1,6 +1,6 @@
 -- The laws of amplitudes. In order: single amplitudes and identities that pin the gates, numbers, whole numbers, products and sums,
 -- columns compared by computation, sizes, the exclusive or, bits, numbers cut in two, lists as linear maps, two lists one after the other
--- and side by side, inverses, sizes added up, two lists compared by one number, and Y.
+-- and side by side, joined lists carried part by part, inverses, sizes added up, two lists compared by one number, and Y.
 pub mod Anchors
 pub mod Identities
 pub mod NumberLaws
@@ -15,6 +15,7 @@ pub mod Linear
 pub mod Outside
 pub mod Composition
 pub mod Tensor
+pub mod Assembly
 pub mod Inverse
 pub mod Total
 pub mod Bridge
