@@ -71,7 +71,7 @@ raws-body [] = refl
 raws-body (g ∷ gs) = rw (raws-gate g (bodyBytes gs), gate-back g, raws-body gs)
 
 -- the bytes of gates, then of more gates
-body-append : (gs hs : List Gate) → bodyBytes (gs ++ hs) ≡ bodyBytes gs ++ bodyBytes hs
+pub body-append : (gs hs : List Gate) → bodyBytes (gs ++ hs) ≡ bodyBytes gs ++ bodyBytes hs
 unfolding bodyBytes
 body-append [] hs = refl
 body-append (g ∷ gs) hs = rw (append-assoc, body-append gs hs)
