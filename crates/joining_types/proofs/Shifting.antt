@@ -130,14 +130,14 @@ pub within-at : (n : ℕ) (bytes : List ℕ) (i : ℕ) → i % 3 ≡ 0 → i + 3
 within-at n bytes i begins inside all = (rw (gates-from bytes i inside) at (within-drop n bytes i begins all)) .0
 
 -- the qubit of a one-qubit gate's bytes
-pub one-within : (n kind a b : ℕ) → kind ≤ lastOneQubit → Within n (gateOf (raw kind a b)) → a < n
+pub one-within : (n kind a b : ℕ) → Within n (gateOf (raw kind a b)) → kind ≤ lastOneQubit → a < n
 unfolding gateOf
-one-within n kind a b low h = rw (le-leb kind lastOneQubit low) at h
+one-within n kind a b h low = rw (le-leb kind lastOneQubit low) at h
 
 -- the qubits of a two-qubit gate's
-pub two-within : (n kind a b : ℕ) → lastOneQubit < kind → Within n (gateOf (raw kind a b)) → (a < n) × (b < n) × (a ≢ b)
+pub two-within : (n kind a b : ℕ) → Within n (gateOf (raw kind a b)) → lastOneQubit < kind → (a < n) × (b < n) × (a ≢ b)
 unfolding gateOf
-two-within n kind a b high h = rw (lt-leb kind lastOneQubit high) at h
+two-within n kind a b h high = rw (lt-leb kind lastOneQubit high) at h
 
 -- a gate's three bytes put in at a place of the buffer l
 module _ (l : List ℕ) (at k kind a b : ℕ) where

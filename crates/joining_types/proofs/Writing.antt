@@ -33,7 +33,7 @@ use Rattle.joining_types.specs.declared.Both.{Both}
 use Rattle.joining_types.proofs.Shifting.{shift-none, shift-nothing, encode-joined, length-shifted, put-behind}
 use Rattle.joining_types.proofs.ClauseLaws.{time-composed, space-composed}
 
--- a check that answered n and g found a record of theirs
+-- a check that answered n and g found an accepted record of g gates on n qubits
 pub holds : (s : List ℕ) (found : Checked) (n g : ℕ) → checkedAnswer found ≡ checkAnswer (read s) → found ≡ Accepted n g → Holds n g s
 holds s found n g answers is =
     let read-s = accepts s found n g answers is in

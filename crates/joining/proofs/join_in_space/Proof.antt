@@ -35,7 +35,7 @@ returns c =
     let at-n = c .before .before in
     let a = at-n .before .before .before .before .before .before .args in
     let (first-list, second-list) = both-there at-n in
-    space-clauses _ _ (now (a .buffer)) _ _ _ refl refl (space-many _ _ _ _ _ _ _ first-list second-list (c .if1 .taken))
+    space-clauses _ _ (now (a .buffer)) _ _ _ refl refl (space-many _ _ _ _ _ _ _ first-list second-list (omega arith))
 
 add-write-joined : tie.Need-add-write-joined
 add-write-joined c = search needs
@@ -46,7 +46,8 @@ cast-write-joined c = search needs
 write-joined-requires : tie.Need-write-joined-requires
 write-joined-requires c κs =
     let (first-list, second-list) = both-there (c .before .before .before) in
-    ((first-list .good, first-list .g-is), (second-list .good, second-list .g-is), c .before .if1 .left, few-held _ _ _ first-list)
+    let few = few-held _ _ _ first-list in
+    search needs
 
 returns-2 : tie.Need-returns-2
 returns-2 c =
@@ -64,7 +65,7 @@ returns-3 c =
     let at-n = at-if1 .before .before in
     let (first-list, second-list) = both-there at-n in
     space-clauses _ _ _ _ _ _ (at-joined .write-joined .ensures .0) (at-joined .write-joined .ensures .1)
-    (space-few _ _ _ _ _ _ _ first-list second-list (at-if1 .if1 .left))
+    (space-few _ _ _ _ _ _ _ first-list second-list (omega (arith, at-if1 .if1 .left)))
 
 pub join-in-space-spec : {M : Type 1} → statement M
 join-in-space-spec =

@@ -34,7 +34,8 @@ returns c =
 write-joined-requires : tie.Need-write-joined-requires
 write-joined-requires c κs =
     let (first-list, second-list) = both-there (c .before .before .before) in
-    ((first-list .good, first-list .g-is), (second-list .good, second-list .g-is), few-held _ _ _ first-list, search needs)
+    let few = few-held _ _ _ first-list in
+    search needs
 
 returns-2 : tie.Need-returns-2
 returns-2 c =

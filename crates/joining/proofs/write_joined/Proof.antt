@@ -26,7 +26,7 @@ returns : tie.Need-returns
 returns c =
     let start = c .before .before .before .before in
     let a = start .args in
-    rw (gates-many _ _ (now (a .buffer)) (a .n) (a .shift) _ _ (start .pre .0) (start .pre .1) (c .if1 .taken)) (refl, refl)
+    rw (gates-many _ _ (now (a .buffer)) (a .n) (a .shift) _ _ (start .pre .0) (start .pre .1) (omega arith)) (refl, refl)
 
 mul-behind : tie.Need-mul-behind
 mul-behind c = search needs
@@ -44,7 +44,7 @@ returns-2 : tie.Need-returns-2
 returns-2 c =
     let start = c .before .before .before .before .before in
     let a = start .args in
-    rw (buffer-short _ _ (now (a .buffer)) (a .n) (a .shift) _ _ (start .pre .0) (start .pre .1) (c .before .if1 .left) (c .if2 .taken)) (refl, refl)
+    rw (buffer-short _ _ (now (a .buffer)) (a .n) (a .shift) _ _ (start .pre .0) (start .pre .1) (omega arith) (omega arith)) (refl, refl)
 
 cast-write-head : tie.Need-cast-write-head
 cast-write-head c = search needs
@@ -103,7 +103,7 @@ returns-3 c =
     let at-if2 = at-head .before .before in
     let start = at-if2 .before .before .before .before .before in
     let a = start .args in
-    rw (lists-stored _ _ (now (a .buffer)) (a .n) (a .shift) _ _ (start .pre .0) (start .pre .1) _ _ _ _ (at-if2 .before .if1 .left) (at-if2 .if2 .left)
+    rw (lists-stored _ _ (now (a .buffer)) (a .n) (a .shift) _ _ (start .pre .0) (start .pre .1) _ _ _ _ (omega (arith, at-if2 .before .if1 .left)) (omega (arith, at-if2 .if2 .left))
     (at-head .write-head .ensures) (at-gates .before .gate-bytes .ensures .0) (at-gates .write-gates .ensures)
     (at-gates2 .before .gate-bytes2 .ensures .0))
     (refl, at-gates2 .write-gates2 .ensures)

@@ -8,7 +8,7 @@ use Rattle.joining.proofs.write_shifted.Statement.{statement}
 use Rattle.joining.proofs.write_shifted.Tie as tie
 
 add-write-gate : tie.Need-add-write-gate
-add-write-gate c = omega (arith, one-within _ _ _ _ (c .before .if1 .taken) (c .before .before .before .pre .2))
+add-write-gate c = omega (arith, one-within _ _ _ _ (c .before .before .before .pre .2) (omega arith))
 
 write-gate-requires : tie.Need-write-gate-requires
 write-gate-requires c κs = search needs
@@ -19,15 +19,14 @@ same-length c = search needs
 returns : tie.Need-returns
 returns c =
     let at-gate = c .before .before in
-    let at-if1 = at-gate .before .before in
-    let a = at-if1 .before .before .args in
-    rw (at-gate .write-gate .ensures) (one-shifted (now (a .buffer)) (a .at) (a .shift) (a .kind) (a .a) (a .b) (at-if1 .if1 .taken))
+    let a = at-gate .before .before .before .before .args in
+    rw (at-gate .write-gate .ensures) (one-shifted (now (a .buffer)) (a .at) (a .shift) (a .kind) (a .a) (a .b) (omega arith))
 
 add-write-gate-2 : tie.Need-add-write-gate-2
-add-write-gate-2 c = omega (arith, two-within _ _ _ _ (c .before .if1 .left) (c .before .before .before .pre .2))
+add-write-gate-2 c = omega (arith, two-within _ _ _ _ (c .before .before .before .pre .2) (omega arith))
 
 add-write-gate-3 : tie.Need-add-write-gate-3
-add-write-gate-3 c = omega (arith, two-within _ _ _ _ (c .before .if1 .left) (c .before .before .before .pre .2))
+add-write-gate-3 c = omega (arith, two-within _ _ _ _ (c .before .before .before .pre .2) (omega arith))
 
 write-gate-requires-2 : tie.Need-write-gate-requires-2
 write-gate-requires-2 c κs = search needs
@@ -38,9 +37,8 @@ same-length-2 c = search needs
 returns-2 : tie.Need-returns-2
 returns-2 c =
     let at-gate = c .before .before in
-    let at-if1 = at-gate .before .before in
-    let a = at-if1 .before .before .args in
-    rw (at-gate .write-gate2 .ensures) (two-shifted (now (a .buffer)) (a .at) (a .shift) (a .kind) (a .a) (a .b) (at-if1 .if1 .left))
+    let a = at-gate .before .before .before .before .args in
+    rw (at-gate .write-gate2 .ensures) (two-shifted (now (a .buffer)) (a .at) (a .shift) (a .kind) (a .a) (a .b) (omega arith))
 
 pub write-shifted-spec : {M : Type 1} → statement M
 write-shifted-spec =
