@@ -1,11 +1,11 @@
--- `joining::write_shifted` meets its contract: the sums are of a shift and a qubit, 16 and below 16, and the three bytes are one piece.
+-- `joining_writing::write_shifted` meets its contract: the sums are of a shift and a qubit, 16 and below 16, and the three bytes are one piece.
 -- Assumes nothing.
 use borrow.Author.Needs.{needs}
 use native.Mathlib.Omega.{arith}
 use denote.Ref.{now}
 use Rattle.joining_types.proofs.Shifting.{one-within, two-within, one-shifted, two-shifted}
-use Rattle.joining.proofs.write_shifted.Statement.{statement}
-use Rattle.joining.proofs.write_shifted.Tie as tie
+use Rattle.joining_writing.proofs.write_shifted.Statement.{statement}
+use Rattle.joining_writing.proofs.write_shifted.Tie as tie
 
 add-write-gate : tie.Need-add-write-gate
 add-write-gate c = omega (arith, one-within _ _ _ _ (c .before .before .before .pre .2) (omega arith))

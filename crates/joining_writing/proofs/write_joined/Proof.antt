@@ -1,4 +1,4 @@
--- `joining::write_joined` meets its contract: the tests on gates and buffer turn down by their rows, and behind them the head and the two
+-- `joining_writing::write_joined` meets its contract: the tests on gates and buffer turn down by their rows, and behind them the head and the two
 -- lists' gate bytes are written, one behind the other.
 -- Assumes nothing.
 use borrow.Author.Needs.{needs}
@@ -6,8 +6,8 @@ use native.Mathlib.Omega.{arith}
 use mathlib.Core.Path.{refl}
 use denote.Ref.{now}
 use Rattle.joining_types.proofs.Writing.{Whole, whole, gates-many, buffer-short, lists-stored}
-use Rattle.joining.proofs.write_joined.Statement.{statement}
-use Rattle.joining.proofs.write_joined.Tie as tie
+use Rattle.joining_writing.proofs.write_joined.Statement.{statement}
+use Rattle.joining_writing.proofs.write_joined.Tie as tie
 
 -- the first list's bytes
 first-whole : (c : tie.Start) → Whole (c .args .g) (now (c .args .first))

@@ -1,4 +1,4 @@
--- `joining::write_gates` meets its contract. The loop's invariant: the first i bytes, whole gates, stand in their place with their qubits
+-- `joining_writing::write_gates` meets its contract. The loop's invariant: the first i bytes, whole gates, stand in their place with their qubits
 -- further on, and the rest of the buffer is as it was. The measure is how many bytes are left.
 -- Assumes nothing.
 use native.Mathlib.Omega.{arith}
@@ -7,8 +7,8 @@ use Prim.Native.Nat.{_-_, _%_, _≤_}
 use lib.ListN.{length}
 use denote.Ref.{now}
 use Rattle.joining_types.proofs.Shifting.{filled, filled-none, filled-more, filled-all, within-at}
-use Rattle.joining.proofs.write_gates.Statement.{statement}
-use Rattle.joining.proofs.write_gates.Tie as tie
+use Rattle.joining_writing.proofs.write_gates.Statement.{statement}
+use Rattle.joining_writing.proofs.write_gates.Tie as tie
 
 abbrev Inv-loop : tie.InvT-loop
 Inv-loop buffer₀ at shift gates i₀ buffer i =
