@@ -174,25 +174,17 @@ unfolding tally shiftList
 tally-shift f k same [] = refl
 tally-shift f k same (g ∷ gs) = rw (tally-shift f k same gs, same g)
 
--- a kind is an H or a T gate whatever its qubit
-kinds-shift : (u : OneQubit) (a b : ℕ) → (isH (one u a) ≡ isH (one u b)) × (isT (one u a) ≡ isT (one u b))
-kinds-shift u a b =
+-- a gate is an H or a T gate whatever its qubits
+gate-shift : (k : ℕ) (g : Gate) → (isH (shiftGate k g) ≡ isH g) × (isT (shiftGate k g) ≡ isT g)
+unfolding shiftGate
+gate-shift k (one u a) =
     elim u [ X ↦ (refl, refl) | Y ↦ (refl, refl) | Z ↦ (refl, refl) | S ↦ (refl, refl) | S† ↦ (refl, refl) | T ↦ (refl, refl) | T† ↦ (refl, refl) | H ↦ (refl, refl) ]
+gate-shift k (two v a b) = (refl, refl)
 
 -- qubits further on leave the H gates of a list
 pub hGates-shift : (k : ℕ) (gs : List Gate) → hGates (shiftList k gs) ≡ hGates gs
-unfolding shiftGate
-hGates-shift k gs = tally-shift isH k same gs
-  where
-    same : (g : Gate) → isH (shiftGate k g) ≡ isH g
-    same (one u a) = kinds-shift u (k + a) a .0
-    same (two v a b) = refl
+hGates-shift k = tally-shift isH k (λ g. gate-shift k g .0)
 
 -- and its T gates
 pub tGates-shift : (k : ℕ) (gs : List Gate) → tGates (shiftList k gs) ≡ tGates gs
-unfolding shiftGate
-tGates-shift k gs = tally-shift isT k same gs
-  where
-    same : (g : Gate) → isT (shiftGate k g) ≡ isT g
-    same (one u a) = kinds-shift u (k + a) a .1
-    same (two v a b) = refl
+tGates-shift k = tally-shift isT k (λ g. gate-shift k g .1)
