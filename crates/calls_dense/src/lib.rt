@@ -1,9 +1,9 @@
 // The dense comparison, by a row. The numbers say how many of the places are lent, and with what all of them begin.
 mod numbers;
 
+use calls_lists::Lists;
 use calls_lists::MOST_BYTES;
-use calls_lists::bytes_of;
-use calls_text::Bytes;
+use calls_lists::lists_of;
 use calls_text::are_below;
 use calls_text::are_numbers;
 use calls_text::front;
@@ -52,21 +52,13 @@ fn on(numbers: &[u8], first: &[u8], second: &[u8]) {
     numbers::show(&buffer, seed);
 }
 
-// Two lists, or one slice given twice where the second is written `=`.
+// The call on the two lists of a row.
 pub fn run(numbers: &[u8], first: &[u8], second: &[u8]) {
     let mut a = [0xa5u8; MOST_BYTES];
     let mut b = [0xa5u8; MOST_BYTES];
-    let Bytes::Count(size) = bytes_of(first, &mut a) else {
-        print::bad();
-        return;
-    };
-    if check::same(second, b"=") {
-        on(numbers, front(&a, size), front(&a, size));
-        return;
+    match lists_of(first, second, &mut a, &mut b) {
+        Lists::Two { first, second } => on(numbers, front(&a, first), front(&b, second)),
+        Lists::Twice(size) => on(numbers, front(&a, size), front(&a, size)),
+        Lists::Bad => print::bad(),
     }
-    let Bytes::Count(other) = bytes_of(second, &mut b) else {
-        print::bad();
-        return;
-    };
-    on(numbers, front(&a, size), front(&b, other));
 }

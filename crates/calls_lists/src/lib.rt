@@ -117,3 +117,27 @@ pub fn bytes_of(text: &[u8], buffer: &mut [u8]) -> Bytes {
     }
     calls_text::from_hex(text, buffer)
 }
+
+// The lists of a pair, at the fronts of two buffers: how many bytes of each are lent, or of the first, which is given twice.
+pub enum Lists {
+    Two { first: usize, second: usize },
+    Twice(usize),
+    Bad,
+}
+
+// The lists of a row's two parts; the first slice twice where the second part is `=`.
+pub fn lists_of(first: &[u8], second: &[u8], a: &mut [u8], b: &mut [u8]) -> Lists {
+    let Bytes::Count(size) = bytes_of(first, a) else {
+        return Lists::Bad;
+    };
+    if check::same(second, b"=") {
+        return Lists::Twice(size);
+    }
+    let Bytes::Count(other) = bytes_of(second, b) else {
+        return Lists::Bad;
+    };
+    Lists::Two {
+        first: size,
+        second: other,
+    }
+}

@@ -1,9 +1,9 @@
-// The calls on a pair, compare and pick, and how a verdict and a pair's refusal are printed. The numbers say how many words and bytes of the workspaces are lent, and with what all their places
-// begin.
+// The calls on a pair, compare and pick, and how a verdict and a pair's refusal are printed. The numbers say how many words and bytes of the
+// workspaces are lent, and with what all their places begin.
+use calls_lists::Lists;
 use calls_lists::MOST_BYTES;
-use calls_lists::bytes_of;
+use calls_lists::lists_of;
 use calls_lists::refusals;
-use calls_text::Bytes;
 use calls_text::are_below;
 use calls_text::are_numbers;
 use calls_text::byte;
@@ -35,7 +35,7 @@ fn outcome(o: Outcome) {
 }
 
 // `first` or `second`, and the gate of that list's refusal.
-fn in_list(list: &[u8], r: record_format::Refusal) {
+pub fn in_list(list: &[u8], r: record_format::Refusal) {
     print::text(list);
     refusals::show_gate(r);
 }
@@ -145,23 +145,15 @@ fn on<'a>(picks: bool, numbers: &[u8], first: &'a [u8], second: &'a [u8]) {
     workspaces::show(&sets, &coeffs, seed);
 }
 
-// A call on a pair: two lists, or one slice given twice where the second is written `=`.
+// A call on a pair.
 fn pair(picks: bool, numbers: &[u8], first: &[u8], second: &[u8]) {
     let mut a = [0xa5u8; MOST_BYTES];
     let mut b = [0xa5u8; MOST_BYTES];
-    let Bytes::Count(size) = bytes_of(first, &mut a) else {
-        print::bad();
-        return;
-    };
-    if check::same(second, b"=") {
-        on(picks, numbers, front(&a, size), front(&a, size));
-        return;
+    match lists_of(first, second, &mut a, &mut b) {
+        Lists::Two { first, second } => on(picks, numbers, front(&a, first), front(&b, second)),
+        Lists::Twice(size) => on(picks, numbers, front(&a, size), front(&a, size)),
+        Lists::Bad => print::bad(),
     }
-    let Bytes::Count(other) = bytes_of(second, &mut b) else {
-        print::bad();
-        return;
-    };
-    on(picks, numbers, front(&a, size), front(&b, other));
 }
 
 // The call of a name, on what its row says.
