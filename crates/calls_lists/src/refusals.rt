@@ -10,7 +10,7 @@ fn show_index(index: usize) {
 }
 
 // The gate that a refusal is about, if it is about one.
-pub fn show_gate(r: Refusal) {
+fn show_gate(r: Refusal) {
     match r {
         Refusal::UnknownKind { gate } => show_index(gate),
         Refusal::SpareByte { gate } => show_index(gate),
@@ -22,5 +22,11 @@ pub fn show_gate(r: Refusal) {
 // `refused`, the number, and the gate.
 pub fn show(r: Refusal) {
     print::refused(number(r));
+    show_gate(r);
+}
+
+// Which list of a pair it is that is refused, as ` first`, and the gate.
+pub fn show_in(list: &[u8], r: Refusal) {
+    print::text(list);
     show_gate(r);
 }

@@ -34,18 +34,12 @@ fn outcome(o: Outcome) {
     print::result(r.first, r.second, counts);
 }
 
-// `first` or `second`, and the gate of that list's refusal.
-pub fn in_list(list: &[u8], r: record_format::Refusal) {
-    print::text(list);
-    refusals::show_gate(r);
-}
-
 // `refused`, the number and, where one of the lists is refused, which one and the gate.
 pub fn refusal(r: Refusal) {
     print::refused(comparison::number(r));
     match r {
-        Refusal::First(list) => in_list(b" first", list),
-        Refusal::Second(list) => in_list(b" second", list),
+        Refusal::First(list) => refusals::show_in(b" first", list),
+        Refusal::Second(list) => refusals::show_in(b" second", list),
         _ => {}
     }
 }

@@ -14,7 +14,7 @@ pub fn next(x: u64) -> u64 {
 }
 
 // The byte of a number: 0 of 0 alone.
-fn byte_of(x: u64) -> u8 {
+pub fn byte_of(x: u64) -> u8 {
     if x == 0 { 0 } else { (x % 255 + 1) as u8 }
 }
 

@@ -1,10 +1,11 @@
-// Drives the calls on a pair, compare, pick and the dense comparison, with rows of text from standard input and prints one line for each; the
-// last line says how many rows there were. tests/README.md describes rows and lines; tests/make_rows.py writes the rows of the gate and
+// Drives the calls on a pair, compare, pick, the dense comparison and the joins, with rows of text from standard input and prints one line for
+// each; the last line says how many rows there were. tests/README.md describes rows and lines; tests/make_rows.py writes the rows of the gate and
 // what must be printed for them.
 //
 // A row: NAME;CALL;NUMBERS;FIRST;SECOND, all five of them. NUMBERS are decimal, one space between two. FIRST and SECOND are bytes in
 // hexadecimal, or a list of gates on n qubits, as `2:h0 t1 c01` (calls_lists). What is printed: the name, what the call answered, and what
-// the lent workspaces or numbers hold afterwards. A row that cannot be read prints `bad row`.
+// the lent workspaces, numbers or bytes hold afterwards. A row that cannot be read prints `bad row`.
+use calls_joins::Way;
 use calls_text::lines;
 use calls_text::part;
 use calls_text::print;
@@ -13,6 +14,14 @@ use calls_text::print;
 fn run(name: &[u8], numbers: &[u8], first: &[u8], second: &[u8]) {
     if check::same(name, b"dense") {
         calls_dense::run(numbers, first, second);
+        return;
+    }
+    if check::same(name, b"join_in_time") {
+        calls_joins::run(Way::InTime, numbers, first, second);
+        return;
+    }
+    if check::same(name, b"join_in_space") {
+        calls_joins::run(Way::InSpace, numbers, first, second);
         return;
     }
     calls_pairs::run(name, numbers, first, second);
