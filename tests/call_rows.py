@@ -2,6 +2,7 @@
 this file. tests/README.md describes both.
 """
 import re
+from functools import cache
 
 import reference as ref
 
@@ -200,9 +201,44 @@ def dense(numbers, first, second, events):
     return " ".join(map(str, result)) + lent_numbers(True, seed)
 
 
+@cache
+def rubbish(seed):
+    """The bytes of a join's buffer before a call, by a row of numbers that begins with the seed: Marsaglia's xorshift. None is 0, but all of them are
+    with the seed 0."""
+    data, x = bytearray(), seed
+    for _ in range(MOST_BYTES):
+        data.append(x % 255 + 1 if x else 0)
+        x = (x ^ x << 13) % 2**64
+        x ^= x >> 7
+        x = (x ^ x << 17) % 2**64
+    return bytes(data)
+
+
+def join(call, numbers, first, second):
+    """What a join writes at the front of its buffer, and how many bytes behind that, or of all, hold what they held."""
+    size, seed = numbers_of(numbers, [MOST_BYTES + 1, ANY])
+    a, b = both_of(first, second)
+    before = rubbish(seed)
+    try:
+        length, after = call(a, b, before[:size])
+    except ref.Refused as refusal:
+        return f"{refused(refusal)} kept {len(before)}"
+    kept = sum(x == y for x, y in zip(before[length:], (after + before[size:])[length:]))
+    return f"length {length} {shown(after[:length])} kept {kept}"
+
+
+def join_in_time(numbers, first, second, events):
+    return join(ref.join_in_time, numbers, first, second)
+
+
+def join_in_space(numbers, first, second, events):
+    return join(ref.join_in_space, numbers, first, second)
+
+
 READERS = {"check": check, "gates": gates, "read_report": read_report}
 BUILDERS = {"start": start, "add": add, "write_report": write_report}
-PAIRS = {"compare": compare, "pick": pick, "dense": dense}
+JOINS = {"join_in_time": join_in_time, "join_in_space": join_in_space}
+PAIRS = {"compare": compare, "pick": pick, "dense": dense, **JOINS}
 CALLS = {**READERS, **BUILDERS, "check_gate": check_gate, "inverse": inverse, **PAIRS}
 PROGRAMS = ("record_calls", "pair_calls")
 

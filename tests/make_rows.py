@@ -5,8 +5,9 @@
 
 The files go to stdin and stdout in the crates of the programs; the gate runs each on the one and compares with the other. Every answer
 of rows.txt is held to the independent implementation beside this file, and the engine has no part in it. A comparison's verdict is held to exact
-columns besides: up to 6 qubits equal and turned to all of them, which exactly the power told must carry. With --check nothing is written: the
-files must be those that would be.
+columns besides: up to 6 qubits equal and turned to all of them, which exactly the power told must carry. So is a joined record up to 6 qubits:
+its columns must be the matrix product of the two lists', in space the tensor product. With --check nothing is written: the files must be those
+that would be.
 """
 import os
 import re
@@ -63,6 +64,20 @@ def held_to_columns(number, row, answer):
     return True
 
 
+def held_as_joined(number, row, answer):
+    """Whether an answer is a joined record that was held to columns, which must bear it out. One on more than 6 qubits is not."""
+    if not re.fullmatch(r"length \d+ [0-9a-f]+ kept \d+", answer):
+        return False
+    _, call, _, *lists = row.split(";")
+    first, second = (ref.read_record(data)[:2] for data in call_rows.both_of(*lists))
+    joined = ref.read_record(bytes.fromhex(answer.split()[2]))[:2]
+    if joined[0] > ALL_COLUMNS:
+        return False
+    if not ref.is_join(call == "join_in_space", first, second, joined):
+        sys.exit(f"rows.txt:{number}: written {answer!r}, but the columns do not bear it out")
+    return True
+
+
 def write(program, name, content):
     """A file of a program, line by line; with --check it must be that already."""
     text = "".join(line + "\n" for line in content)
@@ -82,11 +97,12 @@ def main():
     for number, row, answer in written:
         rows[call_rows.program_of(row)].append((row, expected(number, row, answer)))
     held = sum(held_to_columns(*each) for each in written)
+    joins = sum(held_as_joined(*each) for each in written)
     for program, done in rows.items():
         write(program, "stdin", [row for row, _ in done])
         write(program, "stdout", [line for _, line in done] + [f"rows {len(done)}"])
     counts = ", ".join(f"{len(done)} rows of {program}" for program, done in rows.items())
-    print(f"{counts}; {held} verdicts held to columns")
+    print(f"{counts}; {held} verdicts and {joins} joins held to columns")
 
 
 if __name__ == "__main__":

@@ -1,5 +1,5 @@
-"""An independent implementation of document 01 as items 1 to 4 of 02 change it, for tests alone: records and reports, the steps, the pick,
-exact dense columns, and the comparison of small blocks by them.
+"""An independent implementation of document 01 as items 1 to 5 of 02 change it, for tests alone: records and reports, the steps, the pick,
+exact dense columns, the comparison of small blocks by them, joins and what joined lists do.
 
 It shares no code with the engine and is written for plainness: terms are a dictionary from set to coefficient, and columns are
 dictionaries from output to four whole numbers. A small block's columns are run all at once: they are the digits of large numbers.
@@ -399,6 +399,31 @@ def pick(first, second, words, places, events=None):
     return record(n, gates), False
 
 
+# Joins: writers, of one record from two.
+
+
+def joined(buffer, n, gates):
+    if len(gates) > 512:
+        raise Refused(4)
+    return written(buffer, record(n, gates))
+
+
+def join_in_time(first, second, buffer):
+    """The first list, then the second, on the same qubits."""
+    (n, gates), (m, others) = read_list(first, "first"), read_list(second, "second")
+    if n != m:
+        raise Refused(8)
+    return joined(buffer, n, gates + others)
+
+
+def join_in_space(first, second, buffer):
+    """The first list, then the second, whose qubits are numbered after the first's."""
+    (n, gates), (m, others) = read_list(first, "first"), read_list(second, "second")
+    if n + m > 16:
+        raise Refused(3)
+    return joined(buffer, n + m, gates + [(kind, n + a, n + b if kind > H else b) for kind, a, b in others])
+
+
 # Exact amplitudes: a + bω + cω² + dω³ as (a, b, c, d).
 
 
@@ -417,6 +442,14 @@ def times_root_two(z, k):
 
 def plus(u, v):
     return (u[0] + v[0], u[1] + v[1], u[2] + v[2], u[3] + v[3])
+
+
+def times(u, v):
+    """The product of two numbers, ω⁴ being -1."""
+    product = (0, 0, 0, 0)
+    for k, factor in enumerate(u):
+        product = plus(product, tuple(factor * x for x in times_omega(v, k)))
+    return product
 
 
 def moved(w, kind, a, b):
@@ -479,6 +512,31 @@ class Columns:
         if verdict in ("equal", "turned"):
             return (verdict, first, second) == agreed(first) and self.carry(inputs or range(1 << self.n)) == {first}
         return verdict == "undecided" or max(first, second) >> self.n == 0 and not self.carry((first, second))
+
+
+def composed(state, columns):
+    """What a list with these columns makes of a state."""
+    after = {}
+    for u, z in state.items():
+        for w, y in columns[u].items():
+            after[w] = plus(after.get(w, (0, 0, 0, 0)), times(z, y))
+    return {w: z for w, z in after.items() if any(z)}
+
+
+def side_by_side(n, low, high):
+    """Two states as one, the first on the n low qubits."""
+    return {w + (x << n): times(z, y) for x, y in high.items() for w, z in low.items()}
+
+
+def is_join(in_space, first, second, joined):
+    """Is a list what the other two make together, each given as n and its gates? Its columns are the matrix product of theirs, in space the tensor
+    product, and its T gates the sum."""
+    low, high, found = ([column(gates, v) for v in range(1 << n)] for n, gates in (first, second, joined))
+    if in_space:
+        wanted = [side_by_side(first[0], x, y) for y in high for x in low]
+    else:
+        wanted = [composed(x, high) for x in low]
+    return found == wanted and t_gates(joined[1]) == t_gates(first[1]) + t_gates(second[1])
 
 
 # Small blocks. An output has its amplitudes from every input at once: four large numbers whose digits, of 64 bits each and of either sign,
