@@ -5,9 +5,11 @@ every public call with rows of text, and the programs compare and compare_small,
     rt check record_calls pair_calls compare compare_small && python3 tests/against_reference.py [TIMES]
 
 Fixed cases at the limits come first, then random families (random_pairs.py) that reach every rule; TIMES multiplies the random cases. Up to
-6 qubits, equal, turned by its power and different are also held to exact dense columns. Small blocks go through both comparisons, by rows and by
-programs, and where the path sum decides, the two must print the same verdict and, turned, the same power. Every class of cases is counted. The run
-fails where a line differs, two verdicts do, a class never came up, or one came up that classes.py does not list.
+6 qubits, equal, turned by its power and different are also held to exact dense columns, and so are joins, to the product of the two lists'. Small
+blocks go through both comparisons, by rows and by programs, and where the path sum decides, the two must print the same verdict and, turned, the same
+power. A pair goes through each comparison also as one list, the first joined with the inverse of the second, against nothing, which must print the
+same. Every class of cases is counted. The run fails where a line differs, two verdicts do, a class never came up, or one came up that classes.py
+does not list.
 """
 import os
 import random
@@ -52,8 +54,10 @@ class Check:
         self.rows = []
         self.lines = []
         self.rows_run = 0
-        # rows of a small block and of the same pair for the path sum; what was printed, by the row's name
+        # rows of a small block and of the same pair for the path sum; of a pair, with the row of the first list joined with the inverse of the
+        # second behind it; what was printed, by the row's name
         self.both = []
+        self.inverses = []
         self.printed = {}
 
     def see(self, *names):
@@ -295,6 +299,12 @@ def lent(rng, n, gates):
     return ref.record(n, gates) + bytes(rng.randrange(256) for _ in range(rng.choice((0, 0, 1, 7))))
 
 
+def damaged_lists(rng, a, b, *records):
+    """Two lists as a row lends them, one or both of them damaged records instead."""
+    bad_a, bad_b = (pairs.damaged(rng, data) for data in records)
+    return rng.choice(((bad_a, b), (bad_a, b), (a, bad_b), (a, bad_b), (bad_a, bad_b)))
+
+
 def random_pair_row(check, rng, call, families=pairs.FAMILIES):
     """A pair of a random family; now and then one or both are damaged, or on other qubits, or the first is given twice."""
     family = rng.choice(families)
@@ -303,8 +313,7 @@ def random_pair_row(check, rng, call, families=pairs.FAMILIES):
     a, b = lent(rng, n, first), lent(rng, n, second)
     luck = rng.random()
     if luck < 0.12:
-        bad_a, bad_b = pairs.damaged(rng, ref.record(n, first)), pairs.damaged(rng, ref.record(n, second))
-        a, b = rng.choice(((bad_a, b), (bad_a, b), (a, bad_b), (a, bad_b), (bad_a, bad_b)))
+        a, b = damaged_lists(rng, a, b, ref.record(n, first), ref.record(n, second))
     elif luck < 0.14:
         b = ref.record(rng.choice([m for m in range(1, 17) if m != n]), [])
     elif luck < 0.18:
@@ -384,8 +393,7 @@ def random_small_row(check, rng, family):
     a, b = lent(rng, n, first), lent(rng, n, second)
     luck = rng.random()
     if luck < 0.06:
-        bad_a, bad_b = pairs.damaged(rng, ref.record(n, first)), pairs.damaged(rng, ref.record(n, second))
-        a, b = rng.choice(((bad_a, b), (bad_a, b), (a, bad_b), (a, bad_b), (bad_a, bad_b)))
+        a, b = damaged_lists(rng, a, b, ref.record(n, first), ref.record(n, second))
     elif luck < 0.08:
         b = ref.record(rng.choice([m for m in range(1, 17) if m != n]), [])
     elif luck < 0.10:
@@ -449,6 +457,159 @@ def both_line(check):
         f" ({seen['both different, other inputs']} with other inputs); undecided by the path sum, {seen['undecided there, equal here']} equal,"
         f" {seen['undecided there, turned here']} turned and {seen['undecided there, different here']} different"
     )
+
+
+# Joins.
+
+
+def join_faults(call, n, m, gates, size):
+    """The numbers that fit two good lists, with so many gates together, and a buffer of so many bytes, in the order of the checks."""
+    own = (8, n != m) if call == "join_in_time" else (3, n + m > 16)
+    return [number for number, holds in (own, (4, gates > 512), (11, size < 5 + 3 * gates)) if holds]
+
+
+def join_row(check, call, numbers, first, second):
+    """A row of a join. Gives the joined record, or the number of the refusal."""
+    answer, _ = check.row(row("", call, numbers, first, second)[1:])
+    a, b = lent_bytes(first, second)
+    refusal = refusal_of(getattr(ref, call), a, b, bytes(numbers[0]))
+    check.see(f"{call}: {'rubbish' if numbers[1] else 'zeros'}, {'refused' if refusal else 'accepted'}")
+    if refusal and refusal.which:
+        check.see(f"{call}: refused {refusal.number}")
+        see_bad_lists(check, call, a, b, refusal)
+        return refusal.number
+    (n, gates, end), (m, others, other_end) = ref.read_record(a), ref.read_record(b)
+    faults = join_faults(call, n, m, len(gates + others), numbers[0])
+    hold(refusal.number if refusal else None, faults[0] if faults else None)
+    see_limits(check, call, (n, gates), (m, others), numbers[0], faults[0] if faults else None)
+    if faults:
+        check.see(f"{call}: good lists refused {' before '.join(map(str, faults))}")
+        return faults[0]
+    shapes = {"one slice given twice": second == "=", "bytes behind the first list": len(a) > end, "bytes behind the second list": len(b) > other_end}
+    check.see(*(f"{call}: {name}" for name, yes in shapes.items() if yes))
+    record = bytes.fromhex(answer.split()[2])
+    see_joined(check, call, (n, gates), (m, others), record)
+    return record
+
+
+def see_limits(check, call, first, second, size, number):
+    """The limits that a join of two good lists is at, accepted or refused by this number."""
+    gates, qubits = len(first[1] + second[1]), second[0] + (first[0] if call == "join_in_space" else 0)
+    more = size - (5 + 3 * gates)
+    shapes = {
+        None: {
+            f"{gates} gates": gates in (511, 512),
+            "16 qubits": qubits == 16,
+            "a buffer as long as the record": more == 0,
+            "a buffer one byte longer": more == 1,
+        },
+        3: {"17 qubits": qubits == 17},
+        4: {"513 gates": gates == 513},
+        8: {},
+        11: {"a buffer one byte short": more == -1, "no buffer": size == 0},
+    }
+    check.see(*(f"{call}: {name}" for name, yes in shapes[number].items() if yes))
+
+
+def see_joined(check, call, first, second, record):
+    """The classes of an accepted join; on few qubits it is held to exact columns."""
+    (n, gates), (m, others) = first, second
+    k, joined, _ = ref.read_record(record)
+    h = ref.h_gates(joined)
+    shapes = {
+        "no gates": not joined,
+        "no gates in the first list": not gates and others,
+        "no gates in the second list": gates and not others,
+        "more H gates than a comparison takes": k + h > 64,
+    }
+    names = ["accepted", *(name for name, yes in shapes.items() if yes), *{f"kind {kind} second" for kind, _, _ in others}]
+    if k <= 6 and len(joined) <= 40 and h <= 12:
+        if not ref.is_join(call == "join_in_space", first, second, (k, joined)):
+            fail(f"{record.hex()} is not what the columns say: {call} of {list_text(n, gates)} and {list_text(m, others)}")
+        names.append("columns of the product")
+        if ref.h_gates(gates) and ref.h_gates(others) and ref.t_gates(gates) and ref.t_gates(others):
+            names.append("columns of the product, H and T gates in both lists")
+    check.see(*(f"{call}: {name}" for name in names))
+
+
+def join_numbers(rng, size):
+    """How many bytes are lent, mostly enough for a record of that size, and what they hold before."""
+    lent_now = rng.choice((size, size, size + 1, 2048)) if rng.random() < 0.85 else rng.choice((0, size - 1, size - 1, rng.randrange(size)))
+    return min(lent_now, 2048), rng.choice((0, *range(1, 20), 10**17))
+
+
+def random_join_row(check, rng, call):
+    """Two lists of a random family joined; now and then one or both are damaged, or the first is given twice."""
+    family = rng.choice(pairs.JOINS)
+    check.see(f"{call}: family {family.__name__}")
+    n, first, m, second = family(rng, call == "join_in_space")
+    a, b = lent(rng, n, first), lent(rng, m, second)
+    luck = rng.random()
+    if luck < 0.12:
+        a, b = damaged_lists(rng, a, b, ref.record(n, first), ref.record(m, second))
+    elif luck < 0.18:
+        b, second = "=", first
+    join_row(check, call, join_numbers(rng, 5 + 3 * len(first + second)), a, b)
+
+
+def inverse_rows(check, rng):
+    """A pair, and the first list joined in time with the inverse of the second, against nothing, as rows of both comparisons."""
+    n, first, second = rng.choice((*pairs.FAMILIES, pairs.turned, pairs.small_open))(rng)
+    if len(first + second) > 512 or n + ref.h_gates(first + second) > 64:
+        return
+    a, b, size, seed = lent(rng, n, first), lent(rng, n, second), 5 + 3 * len(second), rng.choice((0, 7))
+    inverse = check.simple("inverse", numbers=(size,), first=b, second=bytes(size))
+    joined = join_row(check, "join_in_time", (2048, seed), a, buffer_of(inverse))
+    calls = [(compare_row, (3136, 3136, seed)), (dense_row, (512, seed))]
+    for one_row, numbers in calls[: 2 if n <= 6 and ref.h_gates(first + second) <= 60 else 1]:
+        check.inverses.append(len(check.rows))
+        one_row(check, numbers, a, b)
+        one_row(check, numbers, joined, list_text(n, []))
+
+
+def agree_by_inverses(check):
+    """What a comparison printed for a pair, and for the first list joined with the inverse of the second; fails where that differs."""
+    for at in check.inverses:
+        here, there = (check.printed[str(i)].split(": ")[1] for i in (at, at + 1))
+        if here != there:
+            fail(f"{there} of the first list joined with the inverse of the second, {here} of the pair: row\n{check.rows[at]}")
+        check.see(f"{check.rows[at].split(';')[1]}: joined with the inverse, {named(here.split(',')[0].split())}")
+
+
+def run_by_inverses(check):
+    """The same by programs, on the records of these rows."""
+    for at in check.inverses:
+        name = {"compare": "compare", "dense": "compare_small"}[check.rows[at].split(";")[1]]
+        pair, joined = (call_rows.both_of(*text.split(";")[3:]) for text in check.rows[at : at + 2])
+        here, there = (check.run_program(b"".join(data[: ref.read_record(data)[2]] for data in lists), name=name) for lists in (pair, joined))
+        if here != there:
+            fail(f"{name} prints {' '.join(there)} of the first list joined with the inverse of the second: row\n{check.rows[at]}")
+        check.see(f"program {name}: joined with the inverse, {named(here)}")
+
+
+def joins_line(check):
+    """The joins in one line."""
+    accepted, held = (sum(check.seen[f"{call}: {name}"] for call in call_rows.JOINS) for name in ("accepted", "columns of the product"))
+    pairs_compared = f"{len(check.inverses)} pairs compared also as one list, joined with an inverse, with the same result"
+    return f"{accepted} joins, {held} of them held to columns; {pairs_compared}"
+
+
+def fixed_joins(check):
+    """Joins at their limits: every two numbers of qubits, gates, and bytes of the buffer."""
+    for n in range(1, 17):
+        for m in range(1, 17):
+            for call, number, bad in (("join_in_time", 8, n != m), ("join_in_space", 3, n + m > 16)):
+                record = join_row(check, call, (5, n), list_text(n, []), list_text(m, []))
+                hold(record, number if bad else ref.record(n if call == "join_in_time" else n + m, []))
+    for call in call_rows.JOINS:
+        for gates in (511, 512, 513):
+            for g in (1, 255, 256, 257, 511, *([0, 512] if gates == 512 else [])):
+                lists = (ref.record(1, pairs.one(kind, *[0] * count)) for kind, count in ((ref.T, g), (ref.X, gates - g)))
+                joined = join_row(check, call, (2048, g), *lists)
+                hold(joined if gates > 512 else joined[3] + 256 * joined[4], 4 if gates > 512 else gates)
+        for size in (*range(14), 2048):
+            joined = join_row(check, call, (size, size), list_text(1, pairs.one(ref.H, 0)), "=")
+            hold(joined if size < 11 else len(joined), 11)
 
 
 # Records and reports.
@@ -641,6 +802,9 @@ def refused_rows(check, data, number, gate=""):
         compare_row(check, (3136, 3136, 1), first, second, "pick")
         dense_row(check, (512, 3), first, second)
         hold(check.lines[-1].split(": ")[1].split(",")[0], f"refused {number} {which}{gate}")
+        for call in call_rows.JOINS:
+            join_row(check, call, (2048, 3), first, second)
+            hold(check.lines[-1].split(": ")[1], f"refused {number} {which}{gate} kept 2048")
 
 
 def fixed_refusals(check):
@@ -694,10 +858,15 @@ def main():
     fixed_rows(check)
     fixed_refusals(check)
     fixed_small_rows(check)
+    fixed_joins(check)
     for _ in range(4000 * times):
         random_pair_row(check, rng, "compare")
     for i in range(2000 * times):
         random_pair_row(check, rng, "pick", (pairs.worth, pairs.turned) if i % 2 else pairs.FAMILIES)
+    for i in range(2000 * times):
+        random_join_row(check, rng, ("join_in_time", "join_in_space")[i % 2])
+    for _ in range(600 * times):
+        inverse_rows(check, rng)
     for _ in range(600 * times):
         record_rows(check, rng)
         builder_rows(check, rng)
@@ -707,6 +876,8 @@ def main():
         random_small_row(check, rng, rng.choice(pairs.SMALL[:-1]) if i % 100 else pairs.small_long)
     check.run_rows()
     agree_in_rows(check)
+    agree_by_inverses(check)
+    run_by_inverses(check)
     inputs = 2000 * times
     for i in range(inputs):
         n, first, second = rng.choice(pairs.FAMILIES)(rng)
@@ -719,6 +890,7 @@ def main():
         run_both(check, damaged_input(rng, data) if i % 3 == 0 else data)
     show_classes(check)
     print(both_line(check))
+    print(joins_line(check))
     print(f"{len(check.rows)} rows and {inputs + blocks} random inputs: all agree with the independent implementation")
 
 

@@ -1,6 +1,6 @@
 """The classes of cases that the cross-check must meet, each at least once."""
 import reference as ref
-from call_rows import PROGRAMS
+from call_rows import JOINS, PROGRAMS
 
 # a verdict that shows the power of ω, by each that there is
 TURNED = tuple(f"turned {j}" for j in range(1, 8))
@@ -82,6 +82,38 @@ BOTH = (
     "both different, other inputs",
     *(f"undecided there, {verdict} here" for verdict in ("equal", "different", "turned")),
 )
+# the first list joined with the inverse of the second, against nothing, and the pair, by rows and by programs
+BY_INVERSES = {
+    "compare": ("equal", "different", "undecided", *TURNED),
+    "program compare": ("equal", "different", "undecided", *TURNED),
+    "dense": ("equal", "different", *TURNED),
+    "program compare_small": ("equal", "different", *TURNED),
+}
+JOIN_FAMILIES = ("join_few", "join_wide", "join_full", "join_pair", "join_none")
+JOINED = (
+    "accepted",
+    *(f"no gates{place}" for place in ("", " in the first list", " in the second list")),
+    *(f"kind {kind} second" for kind in range(11)),
+    "511 gates",
+    "512 gates",
+    "513 gates",
+    "16 qubits",
+    "a buffer as long as the record",
+    "a buffer one byte longer",
+    "a buffer one byte short",
+    "no buffer",
+    "more H gates than a comparison takes",
+    "one slice given twice",
+    *(f"bytes behind the {place} list" for place in ("first", "second")),
+    *(f"{before}, {after}" for before in ("zeros", "rubbish") for after in ("accepted", "refused")),
+    "columns of the product",
+    "columns of the product, H and T gates in both lists",
+)
+# what two good lists are refused by, and which later checks refuse them too
+TOGETHER = {
+    "join_in_time": ("8", "8 before 4", "8 before 11", "8 before 4 before 11", "4", "4 before 11", "11"),
+    "join_in_space": ("3", "3 before 4", "3 before 11", "3 before 4 before 11", "4", "4 before 11", "11"),
+}
 OF_A_LIST = (1, 2, 3, 4, 13, 5, 6, 7)
 REFUSALS = {
     "check": OF_A_LIST,
@@ -94,6 +126,8 @@ REFUSALS = {
     "compare": (*OF_A_LIST, 8, 9, 10),
     "pick": (*OF_A_LIST, 8, 9, 10),
     "dense": (*OF_A_LIST, 8, 9, 14, 10),
+    "join_in_time": OF_A_LIST,
+    "join_in_space": OF_A_LIST,
     "program compare": (*OF_A_LIST, 12, 8, 9),
     "program compare_small": (*OF_A_LIST, 12, 8, 9, 14),
 }
@@ -151,12 +185,17 @@ CLASSES = (
     *(f"dense: {name}" for name in SMALL),
     *(f"{call}: {name}" for call in ("dense", "program compare_small") for name in BOTH),
     *(f"dense: family {name}" for name in SMALL_FAMILIES),
+    *(f"{call}: {name}" for call in JOINS for name in JOINED),
+    "join_in_space: 17 qubits",
+    *(f"{call}: family {name}" for call in JOINS for name in JOIN_FAMILIES),
+    *(f"{call}: good lists refused {numbers}" for call, faults in TOGETHER.items() for numbers in faults),
+    *(f"{call}: joined with the inverse, {verdict}" for call, verdicts in BY_INVERSES.items() for verdict in verdicts),
     *(f"pick: {choice}" for choice in PICKS),
     *(kind_class(kind) for kind in range(11)),
     *ANSWERS,
     *(f"{call}: refused {k}" for call, numbers in REFUSALS.items() for k in numbers),
     *(f"{call}: refused at {place}" for call, places in BAD_GATES.items() for place in places),
-    *(f"{call}: {fault}" for call in ("compare", "pick", "dense") for fault in BAD_LISTS),
+    *(f"{call}: {fault}" for call in ("compare", "pick", "dense", *JOINS) for fault in BAD_LISTS),
     *(f"program {name}: {size} bytes" for name in ("compare", "compare_small") for size in (3082, 3083, 1000000)),
     *(f"rows of {name}" for name in PROGRAMS),
 )

@@ -96,8 +96,8 @@ def main():
     rows = {program: [] for program in call_rows.PROGRAMS}
     for number, row, answer in written:
         rows[call_rows.program_of(row)].append((row, expected(number, row, answer)))
-    held = sum(held_to_columns(*each) for each in written)
     joins = sum(held_as_joined(*each) for each in written)
+    held = sum(held_to_columns(*each) for each in written)
     for program, done in rows.items():
         write(program, "stdin", [row for row, _ in done])
         write(program, "stdout", [line for _, line in done] + [f"rows {len(done)}"])

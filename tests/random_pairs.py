@@ -1,5 +1,6 @@
 """Random lists, pairs of lists and damaged records for the cross-check. Every family takes a generator of random numbers and gives n and two
-lists that an accepted pair may have, and those of small blocks an accepted block, unless it says otherwise.
+lists that an accepted pair may have, and those of small blocks an accepted block, unless it says otherwise. A family of joins gives two lists, each
+behind its number of qubits.
 """
 from itertools import combinations
 
@@ -334,6 +335,59 @@ def small_long(rng):
 
 
 SMALL = (small_equal, small_turned, small_changed, small_unrelated, small_phase, small_open, small_many_h, small_long)
+
+
+# Joins.
+
+
+def join_qubits(rng, in_space, most):
+    """The qubits of two lists: the same in time; in space both together are no more."""
+    n = rng.randint(1, most - in_space)
+    return n, rng.randint(1, most - n) if in_space else n
+
+
+def short_list(rng, n):
+    return random_list(rng, n, rng.choice(KINDS), rng.randint(0, 12), 4)
+
+
+def join_few(rng, in_space):
+    """Short lists on few qubits."""
+    n, m = join_qubits(rng, in_space, rng.choice((2, 3, 6)))
+    return n, short_list(rng, n), m, short_list(rng, m)
+
+
+def join_wide(rng, in_space):
+    """Short lists on 16 qubits together, or one or two more or less; in time the qubits are not always the same."""
+    n = rng.randint(2, 15)
+    m = 16 - n + rng.choice((-1, 0, 0, 1, 2)) if in_space else n + rng.choice((-1, 0, 0, 0, 1))
+    return n, short_list(rng, n), max(m, 1), short_list(rng, max(m, 1))
+
+
+def join_full(rng, in_space):
+    """512 gates together, or one or two more or less, or far more; now and then on too many qubits."""
+    n, m = join_qubits(rng, in_space, 16)
+    if rng.random() < 0.2:
+        m = 17 - n if in_space else n % 16 + 1
+    gates = rng.choice((511, 512, 512, 513, 514, 1023, 1024))
+    g = rng.choice((max(0, gates - 512), min(512, gates), rng.randint(max(0, gates - 512), min(512, gates))))
+    kinds = rng.choice(KINDS)
+    return n, random_list(rng, n, kinds, g, 40), m, random_list(rng, m, kinds, gates - g, 40)
+
+
+def join_pair(rng, in_space):
+    """Two lists of a family of pairs; in space each is of a pair of its own."""
+    n, first, second = rng.choice(FAMILIES)(rng)
+    m, _, other = rng.choice(FAMILIES)(rng) if in_space else (n, first, second)
+    return n, first, m, other
+
+
+def join_none(rng, in_space):
+    """A list without gates and a short one, or both without."""
+    n, m = join_qubits(rng, in_space, rng.choice((2, 16)))
+    return n, short_list(rng, n) if rng.random() < 0.4 else [], m, short_list(rng, m) if rng.random() < 0.4 else []
+
+
+JOINS = (join_few, join_wide, join_full, join_pair, join_none)
 
 
 def bad_gate(rng, n):

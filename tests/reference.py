@@ -356,10 +356,14 @@ def read_list(data, which):
         raise Refused(refusal.number, refusal.index, which) from None
 
 
+def read_both(first, second):
+    """n and the gates of the first list, and of the second; raises Refused."""
+    return *read_list(first, "first"), *read_list(second, "second")
+
+
 def read_lists(first, second):
     """n and both lists of a pair that passes 8 and 9; raises Refused."""
-    n, gates = read_list(first, "first")
-    m, others = read_list(second, "second")
+    n, gates, m, others = read_both(first, second)
     check_pair(n, gates, m, others)
     return n, gates, others
 
@@ -410,7 +414,7 @@ def joined(buffer, n, gates):
 
 def join_in_time(first, second, buffer):
     """The first list, then the second, on the same qubits."""
-    (n, gates), (m, others) = read_list(first, "first"), read_list(second, "second")
+    n, gates, m, others = read_both(first, second)
     if n != m:
         raise Refused(8)
     return joined(buffer, n, gates + others)
@@ -418,7 +422,7 @@ def join_in_time(first, second, buffer):
 
 def join_in_space(first, second, buffer):
     """The first list, then the second, whose qubits are numbered after the first's."""
-    (n, gates), (m, others) = read_list(first, "first"), read_list(second, "second")
+    n, gates, m, others = read_both(first, second)
     if n + m > 16:
         raise Refused(3)
     return joined(buffer, n + m, gates + [(kind, n + a, n + b if kind > H else b) for kind, a, b in others])
