@@ -252,6 +252,119 @@ def try_column_faults(folder):
             ends(f"make_rows.py, {answer} by columns{row}", make_rows.held_to_columns, 1, row, answer)
 
 
+def joins_alone(folder):
+    """A copy with the rows of joins and no others."""
+    for name in ("tests", *(f"crates/{program}" for program in PROGRAMS)):
+        shutil.copytree(os.path.join(ROOT, name), os.path.join(folder, name))
+    path = os.path.join(folder, "tests", "rows.txt")
+    with open(path, encoding="utf-8") as file:
+        rows = [line for line in file if ";join_in_" in line]
+    put(folder, "tests/rows.txt", "".join(rows))
+    got = run_test(folder, "make_rows.py"), run_test(folder, "make_rows.py", "--check")
+    trial("make_rows.py, joins alone", all(status == 0 for status, _ in got), got)
+
+
+def try_join_rows(folder):
+    """A row of a join that is wrong."""
+    time = "join in time: H, then T;join_in_time;2048 6;1:h0;1:t0 => length 11 51430102000700ff0500ff kept 2037\n"
+    space = "join in space: CX second;join_in_space;2048 21;3:;2:c01 => length 8 5143050100080304 kept 2040\n"
+    many = "join in time: 512 gates and 1;join_in_time;2048 33;1:{x0 *512};1:t0 => refused 4 kept 2048\n"
+    bad = "join in space: refusal 6 in the second list;join_in_space;2048 60;5143020000;51430102000000ff0001ff => refused 6 second gate 1 kept 2048\n"
+    for label, old, new in (
+        ("the second list's gates first", time, time.replace("0700ff0500ff", "0500ff0700ff")),
+        ("another length", time, time.replace("length 11", "length 12")),
+        ("another number of gates", time, time.replace("5143010200", "5143010300")),
+        ("a byte not kept", time, time.replace("kept 2037", "kept 2036")),
+        ("no bytes kept", time, time.replace(" kept 2037", "")),
+        ("a join of the other kind", time, time.replace("join_in_time", "join_in_space")),
+        ("a buffer too short", time, time.replace(";2048 6;", ";10 6;")),
+        ("the first list's qubits alone", space, space.replace("514305", "514303")),
+        ("a qubit that stays", space, space.replace("080304", "080004")),
+        ("a second qubit that stays", space, space.replace("080304", "080301")),
+        ("a gate less", many, many.replace("*512", "*511")),
+        ("another number", many, many.replace("refused 4", "refused 11")),
+        ("a list's own number", many, many.replace("refused 4", "refused 4 first")),
+        ("another list", bad, bad.replace("second gate", "first gate")),
+        ("another index", bad, bad.replace("gate 1 ", "gate 0 ")),
+    ):
+        with Fault(folder, "tests/rows.txt", old, new):
+            trial(f"make_rows.py, a join, {label}", run_test(folder, "make_rows.py", "--check")[0] != 0)
+
+
+def try_join_faults(folder):
+    """An independent implementation that joins otherwise than the rows say."""
+    in_time = "    if n != m:\n        raise Refused(8)\n    return joined("
+    in_space = "    if n + m > 16:\n        raise Refused(3)\n    return joined("
+    four = "    if len(gates + others) > 512:\n        raise Refused(4)\n"
+    eleven = "    if len(buffer) < 5 + 3 * len(gates + others) <= 1541:\n        raise Refused(11)\n"
+    gates, second = "    if len(gates) > 512:\n", "[(kind, n + a, n + b if kind > H else b) for kind, a, b in others]"
+    both = 'return *read_list(first, "first"), *read'
+    for label, old, new in (
+        ("the second list first in time", "n, gates + others)", "n, others + gates)"),
+        ("the second list first in space", f"gates + {second}", f"{second} + gates"),
+        ("the first list alone", "n, gates + others)", "n, gates)"),
+        ("qubits moved by one", second, second.replace("n + ", "1 + ")),
+        ("qubits moved by the second list's", second, second.replace("n + ", "m + ")),
+        ("qubits that stay", second, "others"),
+        ("a that stays", second, second.replace("n + a", "a")),
+        ("b that stays", second, second.replace("n + b if kind > H else b", "b")),
+        ("b of CX alone moved", second, second.replace("kind > H", "kind == CX")),
+        ("a spare byte moved", second, second.replace("n + b if kind > H else b", "(n + b) % 256")),
+        ("the first list moved", f"gates + {second}", f"{second.replace('n + ', 'm + ').replace('others', 'gates')} + others"),
+        ("the first list's qubits alone", "joined(buffer, n + m, ", "joined(buffer, n, "),
+        ("513 gates together", gates, gates.replace("512", "513")),
+        ("511 gates together", gates, gates.replace("512", "511")),
+        ("17 qubits together", in_space, in_space.replace("16", "17")),
+        ("15 qubits together", in_space, in_space.replace("16", "15")),
+        ("no 3", in_space, "    return joined("),
+        ("no 8", in_time, "    return joined("),
+        ("8 where the second has more qubits alone", in_time, in_time.replace("!=", "<")),
+        ("8 where the first has more qubits alone", in_time, in_time.replace("!=", ">")),
+        ("8 in space", in_space, in_time.replace("    return joined(", in_space)),
+        ("4 before 8", in_time, four + in_time),
+        ("4 before 3", in_space, four + in_space),
+        ("11 before 8", in_time, eleven + in_time),
+        ("11 before 3", in_space, eleven + in_space),
+        ("11 before 4", gates, "    if len(buffer) < 5 + 3 * len(gates):\n        raise Refused(11)\n" + gates),
+        ("the second list read first", both, f'read_list(second, "second")\n    {both}'),
+        ("a list not named", "Refused(refusal.number, refusal.index, which)", "Refused(refusal.number, refusal.index)"),
+    ):
+        try_fault(folder, "reference.py", f"{label}, joined", old, new)
+    for label, old, new in (
+        ("a byte more lent", "before[:size])", "before[: size + 1])"),
+        ("the bytes of the record taken for kept", "zip(before[length:]", "zip(before"),
+        ("the bytes that are not lent left out", "(after + before[size:])", "after"),
+        ("a refusal that changes a byte", "kept {len(before)}", "kept {len(before) - 1}"),
+    ):
+        try_fault(folder, "call_rows.py", f"{label}, joined", old, new)
+
+
+def try_product_faults(folder):
+    """Products of columns that do not bear out what rows and the independent implementation both say, and joins that the columns do not."""
+    for label, old, new in (
+        ("ω⁴ that is 1", "times_omega(v, k))", "v[-k:] + v[:-k])"),
+        ("one coefficient", "enumerate(u)", "enumerate(u[:1])"),
+        ("the second list first", "[composed(x, high) for x in low]", "[composed(y, low) for y in high]"),
+        ("the first list's columns alone", "[composed(x, high) for x in low]", "low"),
+        ("entries that are not added up", "plus(after.get(w, (0, 0, 0, 0)), times(z, y))", "times(z, y)"),
+        ("inputs of the second list low", "for y in high for x in low]", "for x in low for y in high]"),
+        ("outputs of the second list low", "w + (x << n)", "x + (w << n)"),
+        ("T gates of the first list", " + t_gates(second[1])", ""),
+    ):
+        with Fault(folder, "tests/reference.py", old, new):
+            status, lines = run_test(folder, "make_rows.py", "--check")
+            trial(f"make_rows.py, products with {label}", status != 0 and "the columns do not bear it out" in lines[-1], lines[-1:])
+    time, space = ";join_in_time;2048 1;1:h0;1:t0", ";join_in_space;2048 1;1:h0;1:t0"
+    h, t, moved, answer = "0700ff", "0500ff", "0501ff", "length 11 {} kept 2037".format
+    for row, good, others in (
+        (time, f"5143010200{h}{t}", (f"5143010200{t}{h}", f"5143010100{h}", f"5143010300{h}{t}{t}", f"5143010400{h}0600ff{t}{t}", f"5143020200{h}{moved}")),
+        (space, f"5143020200{h}{moved}", (f"5143020200{h}{t}", f"51430202000701ff{t}", f"5143020100{h}", f"5143010200{h}{t}", f"5143030200{h}{moved}")),
+    ):
+        trial(f"make_rows.py, {good} by columns{row}", make_rows.held_as_joined(1, row, answer(good)))
+        for other in others:
+            ends(f"make_rows.py, {other} by columns{row}", make_rows.held_as_joined, 1, row, answer(other))
+
+
 def try_search_faults(folder):
     """The same of the search over inputs: its weights, their order, and the parities; those of whole words the other rows tell."""
     weights, listed = "for weight in (1, 2, 3):", "sorted(sum(1 << q for q in chosen) for chosen in combinations(range(n), weight))"
@@ -389,7 +502,7 @@ def try_cross_check(folder):
         ends(f"cross-check, record_calls: {label}", one_row, text)
     left = "sets zero 3136 kept 3200, coeffs zero 3136 kept 3200"
     lent = "numbers zero 512 kept 520"
-    turn, none = "51430104000000ff0500ff0000ff0500ff", " 0" * 5
+    turn, t, none = "51430104000000ff0500ff0000ff0500ff", "51430101000500ff", " 0" * 5
     for row, line, others in (
         ("check_gate;1 3 11 0 255;;", "refused 5 gate 3", ("refused 5 gate 4", "refused 5")),
         ("check;;5143010100;", "refused 13", ("refused 1", "refused 13 gate 0")),
@@ -403,6 +516,12 @@ def try_cross_check(folder):
         (f"pick;3136 3136 0;{turn};5143010000", f"first {turn}, {left}", (f"second 5143010000, {left}", f"first 5143010000, {left}")),
         ("read_report;;515603070000000101010000;", "fields 3 7 0 1 1 1 0 0", ("refused 5", "fields 0 7 0 1 1 1 0 0")),
         ("read_report;;515604070000000101010000;", "refused 5", ("fields 4 7 0 1 1 1 0 0",)),
+        (f"join_in_time;2048 1;{t};=", "length 11 51430102000500ff0500ff kept 2037", (f"length 8 {t} kept 2040", "refused 11 kept 2048")),
+        (f"join_in_time;8 1;{t};5143010000", f"length 8 {t} kept 2040", (f"length 8 {t} kept 2039", "length 5 5143010000 kept 2043")),
+        (f"join_in_time;0 1;{t};5143020000", "refused 8 kept 2048", ("refused 11 kept 2048", "refused 8 second kept 2048", "refused 8 kept 2047")),
+        (f"join_in_space;8 0;5143010000;{t}", "length 8 51430201000501ff kept 2040", (f"length 8 {t} kept 2040", "length 8 5143020100050100 kept 2040")),
+        ("join_in_space;5 0;5143090000;5143080000", "refused 3 kept 2048", ("refused 3 first kept 2048", "length 5 5143110000 kept 2043")),
+        ("join_in_space;5 0;5143090000;5143000000", "refused 3 second kept 2048", ("refused 3 kept 2048", "refused 3 first kept 2048")),
     ):
         passes(f"cross-check, {line}", one_row, f"echo '0: {line}'; echo 'rows 1'", row)
         for other in others:
@@ -439,9 +558,10 @@ def try_cross_check(folder):
     passes("cross-check, every class", cross.show_classes, check)
     check.see("a class of its own")
     ends("cross-check, a class that is not listed", cross.show_classes, check)
-    check = cross.Check()
-    check.see(*CLASSES[1:])
-    ends("cross-check, a class that never came up", cross.show_classes, check)
+    for name in (CLASSES[0], "join_in_space: 16 qubits", "program compare: joined with the inverse, turned 5"):
+        check = cross.Check()
+        check.see(*(other for other in CLASSES if other != name))
+        ends(f"cross-check, a class that never came up: {name}", cross.show_classes, check)
     check = cross.Check()
     check.see(*CLASSES)
     check.row("check_gate;1 0 0 0 255;;")
@@ -503,6 +623,68 @@ def try_agreement(folder):
     ends("columns, another than the first input", cross.check_small_columns, cross.Check(), 2, cross.pairs.one(cross.ref.T, 0, 1), [], ["different", "0", "2"])
 
 
+def try_joins(folder):
+    """Joins that the columns do not bear out or refused otherwise, and comparisons that print something else for a join with an inverse."""
+    h, t, moved = (cross.pairs.one(kind, q) for kind, q in ((cross.ref.H, 0), (cross.ref.T, 0), (cross.ref.T, 1)))
+
+    def columns(call, n, gates):
+        cross.see_joined(cross.Check(), call, (1, h), (1, t), cross.ref.record(n, gates))
+
+    passes("joins, columns in time", columns, "join_in_time", 1, h + t)
+    passes("joins, columns in space", columns, "join_in_space", 2, h + moved)
+    for call, n, gates in (
+        *(("join_in_time", 1, t + h), ("join_in_time", 1, h), ("join_in_time", 1, h + t + t), ("join_in_time", 2, h + moved)),
+        *(("join_in_space", 2, h + t), ("join_in_space", 2, h), ("join_in_space", 1, h + t), ("join_in_space", 3, h + moved)),
+    ):
+        ends(f"joins, columns of {len(gates)} gates on {n} by {call}", columns, call, n, gates)
+
+    def refused(number):
+        def join(first, second, buffer):
+            raise cross.ref.Refused(number)
+
+        kept, cross.ref.join_in_time = cross.ref.join_in_time, join
+        try:
+            cross.join_row(cross.Check(), "join_in_time", (0, 1), "1:", "2:")
+        finally:
+            cross.ref.join_in_time = kept
+
+    passes("joins, 8 before 11", refused, 8)
+    for number in (3, 4, 11):
+        ends(f"joins, {number} for 8", refused, number)
+
+    def by_rows(here, there):
+        check = cross.Check()
+        check.rows, check.inverses, check.printed = ["0;compare;a row", "1;compare;another"], [0], {"0": f"0: {here}", "1": f"1: {there}"}
+        cross.agree_by_inverses(check)
+        return check.seen
+
+    left, undecided = ", sets zero 3136 kept 64, coeffs zero 3136 kept 64", "undecided 0 0 1 0 0 0 1"
+    for line, name in (("equal 0 0 1 1 0 0 0", "equal"), ("turned 7 0 1 1 1 0 0", "turned 7"), (undecided, "undecided")):
+        seen = by_rows(line + left, line + left)
+        trial(f"joins, {name} by rows", seen == {f"compare: joined with the inverse, {name}": 1}, seen)
+    for here, there in (
+        (f"turned 7 0 1 1 1 0 0{left}", f"turned 1 0 1 1 1 0 0{left}"),
+        (f"equal 0 0 1 1 0 0 0{left}", f"equal 0 0 2 2 0 0 0{left}"),
+        (f"{undecided}{left}", f"different 0 0 1 0 0 0 1{left}"),
+        (f"{undecided}{left}", undecided + left.replace("64", "65")),
+    ):
+        ends(f"joins, {there} for {here} by rows", by_rows, here, there)
+
+    def by_programs(here, there):
+        lines = {8: here, 11: there}
+        cross.PROGRAM_LINES = {"compare": lambda data: lines[data[3]]}
+        put(folder, "compare", f"#!/bin/sh\ncase $(head -c 4 | od -An -tu1 -j3) in *8) echo {here} ;; *) echo {there} ;; esac\n", 0o755)
+        check = cross.Check()
+        check.rows, check.inverses = ["0;compare;0 0 0;1:{};1:".format("t0 " * count) for count in (8, 11)], [0]
+        cross.run_by_inverses(check)
+
+    cross.program, lines = (lambda name: os.path.join(folder, name)), cross.PROGRAM_LINES
+    passes("joins, the same by programs", by_programs, undecided, undecided)
+    ends("joins, another verdict by programs", by_programs, undecided, "different 0 0 1 0 0 0 1")
+    ends("joins, another count by programs", by_programs, undecided, "undecided 0 0 1 0 0 1 0")
+    cross.PROGRAM_LINES = lines
+
+
 # ---- the script
 class Noticed(Exception):
     """A check of the front door that does not hold."""
@@ -551,9 +733,14 @@ def try_script(folder):
 
 def main():
     """Runs everything."""
-    for part in (try_gate, try_cross_check, try_agreement, try_script):
+    for part in (try_gate, try_cross_check, try_agreement, try_joins, try_script):
         with tempfile.TemporaryDirectory() as folder:
             part(folder)
+    with tempfile.TemporaryDirectory() as folder:
+        joins_alone(folder)
+        try_join_rows(folder)
+        try_join_faults(folder)
+        try_product_faults(folder)
     with tempfile.TemporaryDirectory() as folder:
         for name in ("tests", "docs", "examples", "bench", "crates", ".ci"):
             shutil.copytree(os.path.join(ROOT, name), os.path.join(folder, name))
