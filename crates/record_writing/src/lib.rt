@@ -1,5 +1,5 @@
 // The record layer, writing: the builder (start, add) and the inverse. The last two functions, which have a `requires`, are no calls: they are
-// public for `joining`, and `records` does not pass them on.
+// public for `joining_writing`, and `records` does not pass them on.
 mod builder;
 mod inverter;
 
