@@ -9,7 +9,7 @@ use native.Mathlib.Omega.{arith}
 use lib.Dec.{eqb}
 use borrow.Author.Tests.{eqb-false}
 use Rattle.amplitude.specs.Bits.{digit, bit, flip}
-use Rattle.amplitude.proofs.BitLaws.{bit-zero, digit-eqb, rest-below}
+use Rattle.amplitude.proofs.BitLaws.{bit-zero, bit-power-other, digit-eqb, rest-below}
 use Rattle.phase_sum_meaning.specs.Sets.{_△_, single, parity}
 use Rattle.phase_sum_meaning.specs.Parity.{value, of}
 use Rattle.phase_sum_meaning.specs.Phase.{Term, sumAt, phaseAt, inOdd}
@@ -29,6 +29,15 @@ outOf-free y u = go (bit y u) refl
     go : (b : Bool) → bit y u ≡ b → bit y (cond b (u △ single y) u) ≡ false
     go true e = bit-out-same y u e
     go false e = e
+
+-- and leaves the others
+pub outOf-other : (u v s : ℕ) → (u ≡ v → ⊥) → bit u (outOf v s) ≡ bit u s
+unfolding outOf
+outOf-other u v s ne = go (bit v s)
+  where
+    go : (b : Bool) → bit u (cond b (s △ single v) s) ≡ bit u s
+    go true = rw (bit-△, bit-power-other u v ne) (xor-falseʳ (bit u s))
+    go false = refl
 
 -- what is left does not depend on y
 pub takeOut-free :

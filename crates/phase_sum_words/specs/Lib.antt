@@ -1,0 +1,2 @@
+-- Sets of variables over machine words.
+pub mod Words
