@@ -44,7 +44,7 @@ bare n = encode n []
 
 -- a record with one H gate too many for 16 qubits
 abbrev large : List ℕ
-large = encode 16 (replicate 49 (one H 0))
+large = encode 16 (replicate 113 (one H 0))
 
 -- a stream that holds nothing, or the first record alone: 1
 pub cut-stream : (streamLine [] ≡ refusedLine 1) × (streamLine (bare 1) ≡ refusedLine 1)

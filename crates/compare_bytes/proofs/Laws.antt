@@ -7,7 +7,7 @@ use mathlib.Core.List.{List, []}
 use Rattle.record_format.specs.Row.{first}
 use Rattle.record_format.specs.Reading.{Reading, accepted, refused, read, qubits, gates}
 use Rattle.record_format.proofs.Theorems.{passed}
-use Rattle.phase_sum_meaning.specs.Room.{places}
+use Rattle.phase_sum_meaning.specs.Room.{places, setWords}
 use Rattle.comparison_meaning.specs.Verdict.{compare}
 use Rattle.record_format.specs.Pair.{PairFault}
 use Rattle.comparison_types.specs.Call.{Said, says, workspaceRows, pairFault, compareRead, unlessFault, comparison}
@@ -26,12 +26,12 @@ module _ (s t : List ℕ) where
   result = says (compare 0 (qubits s) (gates s) (gates t))
 
   -- with as many places as are needed number 10 does not arise
-  enough-places : comparison s t places places ≡ unlessFault (pairFault (read s) (read t) []) result
+  enough-places : comparison s t setWords places ≡ unlessFault (pairFault (read s) (read t) []) result
   unfolding pairFault compareRead first
   enough-places = go (read s) refl (read t) refl
     where
       go : (p : Reading) → read s ≡ p → (q : Reading) → read t ≡ q
-          → unlessFault (pairFault p q (workspaceRows places places)) (compareRead p q) ≡ unlessFault (pairFault p q []) result
+          → unlessFault (pairFault p q (workspaceRows setWords places)) (compareRead p q) ≡ unlessFault (pairFault p q []) result
       go (refused f) e q d = refl
       go (accepted n gs) e (refused f) d = refl
       go (accepted n gs) e (accepted m hs) d =
@@ -40,7 +40,7 @@ module _ (s t : List ℕ) where
           rw (same-n, same-gs, same-hs) refl
 
   -- what is written is what the program is to print
-  pub written-is : programLine (follow s t) (comparison s t places places) ≡ pairLine s t
+  pub written-is : programLine (follow s t) (comparison s t setWords places) ≡ pairLine s t
   unfolding pairLine
   written-is =
       ap (programLine (follow s t)) enough-places

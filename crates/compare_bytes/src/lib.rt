@@ -3,6 +3,7 @@
 ghost use Rattle.line_bytes.specs.Line.{AtFront};
 ghost use Rattle.compare_bytes.specs.Lines.{pairLine, streamLine};
 use comparison::PLACES;
+use comparison::SET_WORDS;
 use comparison::compare;
 use line_bytes::LINE_SIZE;
 use pair_bytes::bytes_follow;
@@ -14,7 +15,7 @@ use result_line::write_answer;
 pub fn write_pair(first: &[u8], second: &[u8], line: &mut [u8; LINE_SIZE]) -> usize
     ensures { λ r. ⌜ AtFront (pairLine (now (first .entry)) (now (second .entry))) (now (line .entry)) r (now (line .exit)) ⌝ }
 {
-    let mut sets = [0u64; PLACES];
+    let mut sets = [0u64; SET_WORDS];
     let mut coeffs = [0u8; PLACES];
     let answer = compare(first, second, &mut sets, &mut coeffs);
     write_answer(answer, bytes_follow(first, second), line)

@@ -2,13 +2,15 @@
 ghost use mathlib.Core.Path.{_≡_};
 ghost use lib.ListN.{length, replicate};
 ghost use Rattle.record_format.specs.Reading.{gatesIn};
-ghost use Rattle.phase_sum_types.specs.Workspace.{lent, before, after, Sized};
+ghost use Rattle.phase_sum_meaning.specs.Room.{places, setWords};
+ghost use Rattle.phase_sum_types.specs.Workspace.{setsAt, Level, Levelled, lent, before, after, Sized};
 ghost use Rattle.phase_sum_types.specs.Unmerged.{Buildable};
 ghost use Rattle.comparison_meaning.specs.Verdict.{compare};
 ghost use Rattle.comparison_types.specs.Call.{resultOf, saidOf, comparison, leftBy};
 ghost use Rattle.comparison_types.specs.Clauses.{Sound, Stops, Inputs, Clifford, CountsUp};
 ghost use Rattle.comparison_types.specs.Inner.{CountedTo, ReducesEnd, answerOf, ComparedRead};
 use comparison_checking::PLACES;
+use comparison_checking::SET_WORDS;
 use comparison_checking::check_call;
 use comparison_judging::judge;
 use comparison_pinning::pin;
@@ -20,6 +22,7 @@ use comparison_types::Outcome;
 use comparison_types::PairCheck;
 use phase_sum_building::build;
 use phase_sum_terms::terms::clear;
+use phase_sum_types::WORDS_EACH;
 use record_reading::gate_bytes;
 
 // Reducing what pinning left.
@@ -30,7 +33,7 @@ fn reduce_end(
     sets: &mut [u64],
     coeffs: &mut [u8],
 ) -> End
-    requires { ⌜ CountedTo 0 (pinned .counts) × Sized (pinned .sum) (lent ws fs sets coeffs) ⌝ }
+    requires { ⌜ CountedTo 0 (pinned .counts) × Sized (pinned .sum) (lent ws fs sets coeffs) × Levelled ws fs sets coeffs ⌝ }
     ensures { λ r. ⌜ ReducesEnd pinned r (before ws fs sets coeffs) (after ws fs sets coeffs) ⌝ }
 {
     if pinned.blocked {
@@ -50,10 +53,10 @@ fn decide_in(
     sets: &mut [u64],
     coeffs: &mut [u8],
 ) -> Outcome
-    requires { ⌜ (length (now fs) ≡ length (now ws)) × Buildable (length (now ws)) (now first) (now second) (now sets) (now coeffs) ⌝ }
-    ensures { λ r. ⌜ resultOf r ≡ compare 0 (length (now (ws .entry))) (gatesIn (now (first .entry))) (gatesIn (now (second .entry))) ⌝ }
+    requires { ⌜ Buildable (length (now fs)) (now first) (now second) (setsAt sets) (now coeffs) × Levelled ws fs sets coeffs ⌝ }
+    ensures { λ r. ⌜ resultOf r ≡ compare 0 (length (now (fs .entry))) (gatesIn (now (first .entry))) (gatesIn (now (second .entry))) ⌝ }
 {
-    let n = ws.len();
+    let n = fs.len();
     let sum = build(first, second, ws, fs, sets, coeffs);
     let pinned = pin(sum, ws, fs, sets, coeffs);
     let end = reduce_end(pinned, ws, fs, sets, coeffs);
@@ -62,14 +65,15 @@ fn decide_in(
 
 // The comparison of two lists of gates on n qubits, by their bytes, in the places that are lent. All of them are zero afterwards.
 fn decide(n: usize, first: &[u8], second: &[u8], sets: &mut [u64], coeffs: &mut [u8]) -> Outcome
-    requires { ⌜ Buildable n (now first) (now second) (now sets) (now coeffs) × (length (now coeffs) ≡ length (now sets)) ⌝ }
+    requires { ⌜ Buildable n (now first) (now second) (setsAt sets) (now coeffs) × Level (now sets) (now coeffs) ⌝ }
     ensures steps { λ r. ⌜ resultOf r ≡ compare 0 n (gatesIn (now (first .entry))) (gatesIn (now (second .entry))) ⌝ }
     ensures zero { λ _. ⌜ (now (sets .exit) ≡ replicate (length (now (sets .entry))) 0) × (now (coeffs .exit) ≡ replicate (length (now (coeffs .entry))) 0) ⌝ }
 {
-    let mut ws = [0u64; 16];
+    let mut ws = [0u64; WORDS_EACH * 16];
     let mut fs = [false; 16];
-    let outcome = decide_in(first, second, &mut ws[..n], &mut fs[..n], sets, coeffs);
-    clear(sets, coeffs, sets.len());
+    let words = WORDS_EACH * n;
+    let outcome = decide_in(first, second, &mut ws[..words], &mut fs[..n], sets, coeffs);
+    clear(sets, coeffs);
     outcome
 }
 
@@ -77,7 +81,7 @@ fn decide(n: usize, first: &[u8], second: &[u8], sets: &mut [u64], coeffs: &mut 
 // comparison may use are lent on.
 pub fn compare_read(first: &[u8], second: &[u8], sets: &mut [u64], coeffs: &mut [u8]) -> Comparison
     ensures steps { λ r. ⌜ saidOf (answerOf r) ≡ comparison (now (first .entry)) (now (second .entry)) (length (now (sets .entry))) (length (now (coeffs .entry))) ⌝ }
-    ensures kept { λ r. ⌜ (now (sets .exit) ≡ leftBy (saidOf (answerOf r)) (now (sets .entry))) × (now (coeffs .exit) ≡ leftBy (saidOf (answerOf r)) (now (coeffs .entry))) ⌝ }
+    ensures kept { λ r. ⌜ (now (sets .exit) ≡ leftBy setWords (saidOf (answerOf r)) (now (sets .entry))) × (now (coeffs .exit) ≡ leftBy places (saidOf (answerOf r)) (now (coeffs .entry))) ⌝ }
     ensures found { λ r. ⌜ ComparedRead r (now (first .entry)) (now (second .entry)) ⌝ }
 {
     match check_call(first, second, sets.len(), coeffs.len()) {
@@ -87,7 +91,7 @@ pub fn compare_read(first: &[u8], second: &[u8], sets: &mut [u64], coeffs: &mut 
                 n,
                 gate_bytes(first, g),
                 gate_bytes(second, h),
-                &mut sets[..PLACES],
+                &mut sets[..SET_WORDS],
                 &mut coeffs[..PLACES],
             );
             Comparison::Done { outcome, g, h }
@@ -98,7 +102,7 @@ pub fn compare_read(first: &[u8], second: &[u8], sets: &mut [u64], coeffs: &mut 
 // Two lists compared: the verdict with its inputs and counts, or why the pair is refused.
 pub fn compare(first: &[u8], second: &[u8], sets: &mut [u64], coeffs: &mut [u8]) -> Answer
     ensures steps { λ r. ⌜ saidOf r ≡ comparison (now (first .entry)) (now (second .entry)) (length (now (sets .entry))) (length (now (coeffs .entry))) ⌝ }
-    ensures kept { λ r. ⌜ (now (sets .exit) ≡ leftBy (saidOf r) (now (sets .entry))) × (now (coeffs .exit) ≡ leftBy (saidOf r) (now (coeffs .entry))) ⌝ }
+    ensures kept { λ r. ⌜ (now (sets .exit) ≡ leftBy setWords (saidOf r) (now (sets .entry))) × (now (coeffs .exit) ≡ leftBy places (saidOf r) (now (coeffs .entry))) ⌝ }
     ensures sound { λ r. ⌜ Sound (now (first .entry)) (now (second .entry)) r ⌝ }
     ensures stops { λ r. ⌜ Stops (now (first .entry)) (now (second .entry)) r ⌝ }
     ensures inputs { λ r. ⌜ Inputs (now (first .entry)) (now (second .entry)) r ⌝ }

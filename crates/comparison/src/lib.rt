@@ -6,6 +6,7 @@ mod picking;
 
 pub use comparing::compare;
 pub use comparison_checking::PLACES;
+pub use comparison_checking::SET_WORDS;
 pub use comparison_types::Answer;
 pub use comparison_types::Outcome;
 pub use comparison_types::Refusal;

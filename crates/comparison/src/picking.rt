@@ -4,6 +4,7 @@ ghost use Prim.Native.Nat.{_≤_};
 ghost use mathlib.Core.Bool.{_&&_};
 ghost use lib.ListN.{length, take};
 ghost use Rattle.record_format.specs.Reading.{size, gatesIn};
+ghost use Rattle.phase_sum_meaning.specs.Room.{places, setWords};
 ghost use Rattle.comparison_types.specs.Call.{comparison, leftBy, verdictOf, isEqual, better, picked, pickedPart, pickedAt};
 ghost use Rattle.comparison_types.specs.Clauses.{PickIsRight, EmptyIfRefused};
 use crate::comparing::compare_read;
@@ -60,7 +61,7 @@ pub fn pick<'a, 'b, 'c>(
 ) -> &'a [u8]
     ensures content { λ r. ⌜ now r ≡ pickedPart (picked (now (first .entry)) (now (second .entry)) (length (now (sets .entry))) (length (now (coeffs .entry)))) (now (first .entry)) (now (second .entry)) ⌝ }
     ensures own { λ r. ⌜ r .ptr ≡ pickedAt (picked (now (first .entry)) (now (second .entry)) (length (now (sets .entry))) (length (now (coeffs .entry)))) (first .entry .ptr) (second .entry .ptr) ⌝ }
-    ensures kept { λ _. ⌜ (now (sets .exit) ≡ leftBy (comparison (now (first .entry)) (now (second .entry)) (length (now (sets .entry))) (length (now (coeffs .entry)))) (now (sets .entry))) × (now (coeffs .exit) ≡ leftBy (comparison (now (first .entry)) (now (second .entry)) (length (now (sets .entry))) (length (now (coeffs .entry)))) (now (coeffs .entry))) ⌝ }
+    ensures kept { λ _. ⌜ (now (sets .exit) ≡ leftBy setWords (comparison (now (first .entry)) (now (second .entry)) (length (now (sets .entry))) (length (now (coeffs .entry)))) (now (sets .entry))) × (now (coeffs .exit) ≡ leftBy places (comparison (now (first .entry)) (now (second .entry)) (length (now (sets .entry))) (length (now (coeffs .entry)))) (now (coeffs .entry))) ⌝ }
     ensures right { λ r. ⌜ PickIsRight (now (first .entry)) (now (second .entry)) (length (now (sets .entry))) (length (now (coeffs .entry))) (now r) ⌝ }
     ensures empty { λ r. ⌜ EmptyIfRefused (now (first .entry)) (now (second .entry)) (length (now (sets .entry))) (length (now (coeffs .entry))) (now r) ⌝ }
 {

@@ -5,21 +5,25 @@ ghost use mathlib.Core.Bool.{_||_};
 ghost use mathlib.Core.List.{[]};
 ghost use lib.Dec.{ltb};
 ghost use Rattle.record_format.specs.Reading.{read};
-ghost use Rattle.phase_sum_meaning.specs.Room.{places};
+ghost use Rattle.phase_sum_meaning.specs.Room.{places, setWords};
 ghost use Rattle.comparison_types.specs.Call.{workspaceRows, pairFault};
 ghost use Rattle.comparison_types.specs.Inner.{AcceptedWith, foundFault, PairRead};
 use comparison_types::PairCheck;
 use comparison_types::Refusal;
 use gate_counting::h_gates;
+use phase_sum_types::WORDS_EACH;
 use record_format::Checked;
 use record_reading::check;
 use record_reading::gate_bytes;
 
-// The places of a workspace.
-pub const PLACES: usize = 3136;
+// The places of a workspace, a coefficient each.
+pub const PLACES: usize = 3200;
+
+// The words of the other workspace: a set at each place.
+pub const SET_WORDS: usize = WORDS_EACH * PLACES;
 
 // The variables that a pair may have.
-pub const MOST_VARIABLES: usize = 64;
+pub const MOST_VARIABLES: usize = 128;
 
 // 8 and 9, for two accepted lists on n and m qubits, of g and h gates.
 fn check_sizes(first: &[u8], second: &[u8], n: usize, m: usize, g: usize, h: usize) -> PairCheck
@@ -50,11 +54,11 @@ pub fn check_pair(first: &[u8], second: &[u8]) -> PairCheck
     }
 }
 
-// 10: is one of two workspaces short of its places?
+// 10: is one of two workspaces short of its words or bytes?
 pub fn workspace_short(words: usize, bytes: usize) -> bool
-    ensures { λ r. ⌜ r ≡ (ltb words places || ltb bytes places) ⌝ }
+    ensures { λ r. ⌜ r ≡ (ltb words setWords || ltb bytes places) ⌝ }
 {
-    if words < PLACES {
+    if words < SET_WORDS {
         return true;
     }
     bytes < PLACES

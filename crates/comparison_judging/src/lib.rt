@@ -4,7 +4,7 @@ ghost use Prim.Native.Nat.{ℕ, _≤_};
 ghost use mathlib.Core.Bool.{Bool};
 ghost use mathlib.Core.List.{List};
 ghost use lib.ListN.{length};
-ghost use Rattle.phase_sum_types.specs.Workspace.{parityOf, Lent, slices};
+ghost use Rattle.phase_sum_types.specs.Workspace.{setsAt, placesIn, parityOf, Lent, slices};
 ghost use Rattle.comparison_meaning.specs.Verdict.{blockedInput, result, searched, judge};
 ghost use Rattle.comparison_types.specs.Call.{verdictOf, resultOf};
 ghost use Rattle.comparison_types.specs.Inner.{endOf, unblocked};
@@ -56,8 +56,8 @@ fn outcome(sum: Sum, counts: Counts, verdict: Verdict, first: u16, second: u16) 
 // No path variable is left: different unless pins and sums agree, else the search decides. Where it finds nothing, minus the constant is the
 // power of ω that carries the first list to the second.
 fn searched(sum: Sum, counts: Counts, n: usize, sets: &[u64], coeffs: &[u8]) -> Outcome
-    requires { ⌜ (n ≤ 16) × (sum .phase .count ≤ length (now sets)) × (sum .phase .count ≤ length (now coeffs)) ⌝ }
-    ensures { λ r. ⌜ ((ws : List ℕ) (fs : List Bool) (by : Parity) → resultOf r ≡ searched 0 n (endOf (unblocked by sum counts) (slices ws fs (now (sets .entry)) (now (coeffs .entry))))) ⌝ }
+    requires { ⌜ (n ≤ 16) × (sum .phase .count ≤ placesIn (now sets)) × (sum .phase .count ≤ length (now coeffs)) ⌝ }
+    ensures { λ r. ⌜ ((ws : List ℕ) (fs : List Bool) (by : Parity) → resultOf r ≡ searched 0 n (endOf (unblocked by sum counts) (slices ws fs (setsAt (sets .entry)) (now (coeffs .entry))))) ⌝ }
 {
     let phase = sum.phase;
     if counts.pins != counts.sums {
@@ -74,8 +74,8 @@ fn searched(sum: Sum, counts: Counts, n: usize, sets: &[u64], coeffs: &[u8]) -> 
 
 // The verdict on n qubits.
 pub fn judge(end: End, n: usize, sets: &[u64], coeffs: &[u8]) -> Outcome
-    requires { ⌜ (n ≤ 16) × (end .sum .phase .count ≤ length (now sets)) × (end .sum .phase .count ≤ length (now coeffs)) ⌝ }
-    ensures { λ r. ⌜ ((ws : List ℕ) (fs : List Bool) → resultOf r ≡ judge 0 n (endOf end (slices ws fs (now (sets .entry)) (now (coeffs .entry))))) ⌝ }
+    requires { ⌜ (n ≤ 16) × (end .sum .phase .count ≤ placesIn (now sets)) × (end .sum .phase .count ≤ length (now coeffs)) ⌝ }
+    ensures { λ r. ⌜ ((ws : List ℕ) (fs : List Bool) → resultOf r ≡ judge 0 n (endOf end (slices ws fs (setsAt (sets .entry)) (now (coeffs .entry))))) ⌝ }
 {
     let sum = end.sum;
     let counts = end.counts;

@@ -165,7 +165,7 @@ pub record Accepted (s t : List ℕ) (n : ℕ) (first second : List Gate) : Type
   pub reads-first : read s ≡ accepted n first
   pub reads-second : read t ≡ accepted n second
 
--- the terms of an accepted pair with at most 64 variables fit the 3,136 places of a workspace, at every step
+-- the terms of an accepted pair with no more variables than a pair may have fit the places of a workspace, at every step
 abbrev pub PairFits : ℕ → List Gate → List Gate → Type 0
 PairFits n first second = n + (hGates first + hGates second) ≤ mostVariables → room first second ≤ places
 

@@ -5,7 +5,7 @@ ghost use lib.ListN.{length, getD};
 ghost use Rattle.phase_sum_meaning.specs.Parity.{of, _⊕_, rest};
 ghost use Rattle.phase_sum_meaning.specs.Building.{input};
 ghost use Rattle.phase_sum_meaning.specs.Room.{mostVariables};
-ghost use Rattle.phase_sum_types.specs.Workspace.{parityOf, zipWires, lent, before, after, Sized};
+ghost use Rattle.phase_sum_types.specs.Workspace.{setsAt, placesIn, Levelled, parityOf, zipWires, lent, before, after, Sized};
 ghost use Rattle.comparison_meaning.specs.Reduction.{isZero};
 ghost use Rattle.comparison_types.specs.Inner.{PinnedQubit, PinnedAll};
 use comparison_types::Counts;
@@ -23,8 +23,8 @@ use phase_sum_types::Sum;
 
 // The parity of output wire q and input q together.
 fn mismatch(ws: &[u64], fs: &[bool], q: usize) -> Parity
-    requires { ⌜ (q < mostVariables) × (q < length (now ws)) × (q < length (now fs)) ⌝ }
-    ensures { λ r. ⌜ parityOf r ≡ getD (zipWires (now (ws .entry)) (now (fs .entry))) q (of 0) ⊕ input 0 q ⌝ }
+    requires { ⌜ (q < mostVariables) × (q < placesIn (now ws)) × (q < length (now fs)) ⌝ }
+    ensures { λ r. ⌜ parityOf r ≡ getD (zipWires (setsAt (ws .entry)) (now (fs .entry))) q (of 0) ⊕ input 0 q ⌝ }
 {
     let w = wire(ws, fs, q);
     Parity {
@@ -77,7 +77,7 @@ fn pin_qubit(
     sets: &mut [u64],
     coeffs: &mut [u8],
 ) -> End
-    requires { ⌜ (q < length (now ws)) × (counts .pins ≤ q) × Sized sum (lent ws fs sets coeffs) ⌝ }
+    requires { ⌜ (q < length (now fs)) × (counts .pins ≤ q) × Sized sum (lent ws fs sets coeffs) × Levelled ws fs sets coeffs ⌝ }
     ensures { λ r. ⌜ PinnedQubit q sum counts r (before ws fs sets coeffs) (after ws fs sets coeffs) ⌝ }
 {
     let by = mismatch(ws, fs, q);
@@ -99,7 +99,7 @@ fn pin_qubit(
 
 // Every qubit pinned, up to the first that is blocked.
 pub fn pin(sum: Sum, ws: &mut [u64], fs: &mut [bool], sets: &mut [u64], coeffs: &mut [u8]) -> End
-    requires { ⌜ Sized sum (lent ws fs sets coeffs) ⌝ }
+    requires { ⌜ Sized sum (lent ws fs sets coeffs) × Levelled ws fs sets coeffs ⌝ }
     ensures { λ r. ⌜ PinnedAll sum r (before ws fs sets coeffs) (after ws fs sets coeffs) ⌝ }
 {
     let mut end = End {
@@ -117,7 +117,7 @@ pub fn pin(sum: Sum, ws: &mut [u64], fs: &mut [bool], sets: &mut [u64], coeffs: 
         },
     };
     let mut q = 0;
-    while q < ws.len() {
+    while q < fs.len() {
         let now = end.sum;
         let counts = end.counts;
         end = pin_qubit(now, counts, q, ws, fs, sets, coeffs);

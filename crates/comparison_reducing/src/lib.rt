@@ -6,7 +6,7 @@ ghost use lib.ListN.{length};
 ghost use Rattle.amplitude.specs.Bits.{bit};
 ghost use Rattle.phase_sum_meaning.specs.Stepping.{kindOf, constraint, constrained, firstReady};
 ghost use Rattle.phase_sum_meaning.specs.Room.{mostVariables};
-ghost use Rattle.phase_sum_types.specs.Workspace.{setOf, held, parityOf, members, foundOf, lent, before, after, Sized};
+ghost use Rattle.phase_sum_types.specs.Workspace.{setOf, setsAt, placesIn, Levelled, held, parityOf, members, foundOf, lent, before, after, Sized};
 ghost use Rattle.comparison_meaning.specs.Reduction.{addSum, addTurn, addJoin};
 ghost use Rattle.comparison_types.specs.Inner.{countsOf, CountedTo, Goes, StepsTo, StepsAt, ReducedTo};
 use comparison_pinning::rest_of;
@@ -119,7 +119,7 @@ pub fn step_at(
     sets: &mut [u64],
     coeffs: &mut [u8],
 ) -> End
-    requires { ⌜ (bit y (setOf (sum .live)) ≡ true) × (y < mostVariables) × (z < mostVariables) × CountedTo mostVariables counts × Sized sum (lent ws fs sets coeffs) ⌝ }
+    requires { ⌜ (bit y (setOf (sum .live)) ≡ true) × (y < mostVariables) × (z < mostVariables) × CountedTo mostVariables counts × Sized sum (lent ws fs sets coeffs) × Levelled ws fs sets coeffs ⌝ }
     ensures { λ r. ⌜ StepsTo y z c (setOf l) sum counts r (before ws fs sets coeffs) (after ws fs sets coeffs) ⌝ }
 {
     if c % 2 == 1 {
@@ -145,7 +145,7 @@ fn step(
     sets: &mut [u64],
     coeffs: &mut [u8],
 ) -> End
-    requires { ⌜ (bit y (setOf (sum .live)) ≡ true) × (y < mostVariables) × CountedTo mostVariables counts × Sized sum (lent ws fs sets coeffs) ⌝ }
+    requires { ⌜ (bit y (setOf (sum .live)) ≡ true) × (y < mostVariables) × CountedTo mostVariables counts × Sized sum (lent ws fs sets coeffs) × Levelled ws fs sets coeffs ⌝ }
     ensures { λ r. ⌜ StepsAt y sum counts r (before ws fs sets coeffs) (after ws fs sets coeffs) ⌝ }
 {
     let phase = sum.phase;
@@ -170,8 +170,8 @@ fn step(
 
 // The lowest ready variable: left, and in no term of odd coefficient.
 fn ready(sum: Sum, sets: &[u64], coeffs: &[u8]) -> Found
-    requires { ⌜ (sum .phase .count ≤ length (now sets)) × (sum .phase .count ≤ length (now coeffs)) ⌝ }
-    ensures { λ r. ⌜ foundOf r ≡ firstReady (members (setOf (sum .live))) (held (sum .phase .count) (now (sets .entry)) (now (coeffs .entry))) ⌝ }
+    requires { ⌜ (sum .phase .count ≤ placesIn (now sets)) × (sum .phase .count ≤ length (now coeffs)) ⌝ }
+    ensures { λ r. ⌜ foundOf r ≡ firstReady (members (setOf (sum .live))) (held (sum .phase .count) (setsAt (sets .entry)) (now (coeffs .entry))) ⌝ }
 {
     let phase = sum.phase;
     lowest_out(sum.live, odd_mask(sets, coeffs, phase.count))
@@ -186,7 +186,7 @@ pub fn reduce(
     sets: &mut [u64],
     coeffs: &mut [u8],
 ) -> End
-    requires { ⌜ CountedTo 0 counts × Sized sum (lent ws fs sets coeffs) ⌝ }
+    requires { ⌜ CountedTo 0 counts × Sized sum (lent ws fs sets coeffs) × Levelled ws fs sets coeffs ⌝ }
     ensures { λ r. ⌜ ReducedTo sum counts r (before ws fs sets coeffs) (after ws fs sets coeffs) ⌝ }
 {
     let mut end = goes(sum, counts);

@@ -1,7 +1,7 @@
 -- Worked cases of the definitions, by computation.
 -- Assumes nothing.
 use mathlib.Core.Path.{_≡_, refl}
-use Prim.Native.Nat.{ℕ, _≤_}
+use Prim.Native.Nat.{ℕ, _+_, _≤_}
 use native.Mathlib.Omega.{arith}
 use mathlib.Core.List.{List, [], _∷_, _++_}
 use mathlib.Core.Option.{Option, none, some}
@@ -14,6 +14,7 @@ use Rattle.amplitude.specs.Circuit.{tally}
 use Rattle.comparison_meaning.specs.Verdict as verdict
 use Rattle.comparison_meaning.specs.Verdict.{Result, equal, different, undecided, turned, number}
 use Rattle.record_format.specs.Pair.{PairFault, ofPair}
+use Rattle.phase_sum_meaning.specs.Room.{places, setWords}
 use Rattle.comparison_types.specs.Call.{verdictNumber, verdictOf, workspaceRows, pairFault, says, refuses, leftBy, Choice, theFirst, theSecond, choice, pickedAt}
 use Rattle.comparison_types.specs.declared.Verdict.{Verdict}
 use Rattle.comparison_types.specs.declared.Verdict.the-variants.{Equal, Different, Undecided, Turned}
@@ -42,30 +43,34 @@ verdict-known Turned = omega arith
 abbrev hadamards : ℕ → List Gate
 hadamards k = replicate k (one H 0)
 
--- the fault that two lists on 16 qubits are refused by, if any, in workspaces of w and c places
+-- the fault that two lists on 16 qubits are refused by, if any, in workspaces of w words and c bytes
 abbrev refusedBy : ℕ → ℕ → ℕ → ℕ → Option PairFault
 refusedBy h k w c = pairFault (accepted 16 (hadamards h)) (accepted 16 (hadamards k)) (workspaceRows w c)
 
--- document 01's limits: 48 H gates pass on 16 qubits, in whichever list, and 49 get 9
+-- the limits of document 02, item 6: 112 H gates pass on 16 qubits, in whichever list, and 113 get 9
 pub h-limit :
-    (refusedBy 48 0 3136 3136 ≡ none)
-    × ((refusedBy 20 28 3136 3136 ≡ none) × ((refusedBy 49 0 3136 3136 ≡ some (ofPair 9)) × (refusedBy 20 29 3136 3136 ≡ some (ofPair 9))))
+    (refusedBy 112 0 setWords places ≡ none)
+    × ((refusedBy 20 92 setWords places ≡ none) × ((refusedBy 113 0 setWords places ≡ some (ofPair 9)) × (refusedBy 20 93 setWords places ≡ some (ofPair 9))))
 unfolding pairFault first tally
 h-limit = (refl, (refl, (refl, refl)))
 
--- 3,136 places pass, 3,135 of either workspace get 10, behind 9
+-- one word more than 6,399 and one byte more than 3,199 pass, so many of either get 10, behind 9
 pub places-limit :
-    (refusedBy 0 0 3135 3136 ≡ some (ofPair 10)) × ((refusedBy 0 0 3136 3135 ≡ some (ofPair 10)) × (refusedBy 49 0 0 0 ≡ some (ofPair 9)))
+    (refusedBy 0 0 (6399 + 1) (3199 + 1) ≡ none)
+    × ((refusedBy 0 0 6399 (3199 + 1) ≡ some (ofPair 10)) × ((refusedBy 0 0 (6399 + 1) 3199 ≡ some (ofPair 10)) × (refusedBy 113 0 0 0 ≡ some (ofPair 9))))
 unfolding pairFault first tally
-places-limit = (refl, (refl, refl))
+places-limit = (refl, (refl, (refl, refl)))
 
 -- a refused call leaves a workspace as it was
-pub refused-leaves : leftBy (refuses (ofPair 8)) (1 ∷ 2 ∷ []) ≡ 1 ∷ 2 ∷ []
+pub refused-leaves : leftBy setWords (refuses (ofPair 8)) (1 ∷ 2 ∷ []) ≡ 1 ∷ 2 ∷ []
 refused-leaves = refl
 
--- an accepted one leaves zeros up to place 3,135, and what stood behind that
-pub accepted-leaves : (r : Result) → drop 3135 (leftBy (says r) (replicate 3136 5 ++ 8 ∷ 9 ∷ [])) ≡ 0 ∷ 8 ∷ 9 ∷ []
-accepted-leaves r = refl
+-- an accepted one leaves zeros up to word 6,399 of the sets and byte 3,199 of the coefficients, and what stood behind that
+pub accepted-leaves :
+    (r : Result) →
+    (drop 6399 (leftBy setWords (says r) (replicate (6399 + 1) 5 ++ 8 ∷ 9 ∷ [])) ≡ 0 ∷ 8 ∷ 9 ∷ [])
+    × (drop 3199 (leftBy places (says r) (replicate (3199 + 1) 5 ++ 8 ∷ 9 ∷ [])) ≡ 0 ∷ 8 ∷ 9 ∷ [])
+accepted-leaves r = (refl, refl)
 
 -- what the pick chooses of two lists on one qubit that have this verdict
 abbrev chosen : verdict.Verdict → List Gate → List Gate → Choice

@@ -3,13 +3,13 @@
 -- Assumes nothing.
 use mathlib.Core.Path.{_≡_, refl, sym, ap, _∙_}
 use Prim.Native.Nat.{ℕ, _+_, _*_, _≤_}
-use native.Mathlib.Nat.{sub-zero, le-refl}
+use native.Mathlib.Nat.{le-refl}
 use native.Mathlib.Omega.{arith}
 use mathlib.Core.Bool.{Bool, true, false, _||_}
 use mathlib.Core.Option.{Option, none, some}
-use mathlib.Core.List.{List, [], _++_, append-nil}
-use lib.ListN.{length, take, drop, replicate}
-use lib.Seq.{length-take-le, drop-length}
+use mathlib.Core.List.{List, _++_}
+use lib.ListN.{length, take, drop}
+use lib.Seq.{length-take-le}
 use lib.Dec.{ltb}
 use borrow.Author.Tests.{ltb-false}
 use Rattle.record_format.specs.Format.{headSize, gateSize}
@@ -19,12 +19,13 @@ use Rattle.record_format.proofs.Rows.{none-holds}
 use Rattle.amplitude.specs.Circuit.{tally, hGates}
 use Rattle.amplitude.proofs.Linear.{tally-append}
 use Rattle.phase_sum_meaning.specs.Building.{PathSum, build}
-use Rattle.phase_sum_meaning.specs.Room.{roomFor, room, mostVariables, places}
+use Rattle.phase_sum_meaning.specs.Room.{roomFor, room, mostVariables, places, wordsEach, setWords}
 use Rattle.phase_sum_meaning.proofs.Roominess.{room-build, tally-inverse-room}
-use Rattle.phase_sum_types.specs.Workspace.{setOf, over, Lent, members, Sized}
+use Rattle.phase_sum_words.specs.Words.{setsIn}
+use Rattle.phase_sum_types.specs.Workspace.{setOf, Level, Lent, members, Sized}
 use Rattle.phase_sum_types.specs.Unmerged.{Builds, Buildable}
 use Rattle.phase_sum_types.specs.declared.Sum.{Sum}
-use Rattle.phase_sum_types.proofs.Storing.{over-padded}
+use Rattle.phase_sum_types.proofs.TwoWords.{level-places}
 use Rattle.phase_sum_types.proofs.Acceptance.{buildable}
 use Rattle.comparison_meaning.specs.Reduction as reduction
 use Rattle.comparison_meaning.specs.Reduction.{pinned, reduceEnd}
@@ -86,13 +87,13 @@ pub refusal-said :
     refuses (faultOf k) ≡ comparison s t w c
 refusal-said s t w c found refused = rw (← found, refused)
 
--- a pair that the checks let pass: two accepted lists on n qubits, of g and h gates, with at most 64 variables, and workspaces with all
--- their places
+-- a pair that the checks let pass: two accepted lists on n qubits, of g and h gates, with no more variables than a pair may have, and
+-- workspaces with all their words and bytes
 pub record Passed (s t ss cs : List ℕ) (n g h : ℕ) : Type 0 where
   pub first : AcceptedWith n g s
   pub second : AcceptedWith n h t
   pub variables : n + (hGates (first .gates) + hGates (second .gates)) ≤ mostVariables
-  pub sets : places ≤ length ss
+  pub sets : setWords ≤ length ss
   pub coeffs : places ≤ length cs
   pub said : comparison s t (length ss) (length cs) ≡ says (compare 0 n (first .gates) (second .gates))
 
@@ -116,12 +117,12 @@ pair-passes s t ss cs {n} {g} {h} {r} found lists good =
     let below = workspaceRows (length ss) (length cs) in
     let fault : pairFault (read s) (read t) below ≡ none = sym found ∙ ap foundFault good in
     let rows = none-holds (pairRows n n gs hs ++ below) .0 (rw (list .reads, other .reads) at fault) in
-    let sizes = neither (ltb (length ss) places) (ltb (length cs) places) (rows .1 .1 .0) in
+    let sizes = neither (ltb (length ss) setWords) (ltb (length cs) places) (rows .1 .1 .0) in
     record {
       first = list;
       second = other;
       variables = ltb-false mostVariables (n + (hGates gs + hGates hs)) (rows .1 .0);
-      sets = ltb-false (length ss) places (sizes .0);
+      sets = ltb-false (length ss) setWords (sizes .0);
       coeffs = ltb-false (length cs) places (sizes .1);
       said = rw (fault, list .reads, other .reads);
     }
@@ -139,14 +140,21 @@ module _
     gates-second : gatesIn part′ ≡ pass .second .gates
     gates-second = rw is′ (gates-of (pass .second))
 
+    -- the first words are those of whole sets, as many as there are first bytes
+    pub pass-level : Level (take setWords ss) (take places cs)
+    pass-level = rw (length-take-le setWords ss (pass .sets), length-take-le places cs (pass .coeffs))
+
     -- they can be built in the first places
-    pub pass-fits : Buildable n part part′ (take places ss) (take places cs)
+    pub pass-fits : Buildable n part part′ (setsIn wordsEach (take setWords ss)) (take places cs)
     pass-fits =
         let list = pass .first in
         let other = pass .second in
+        let bytes : length (take places cs) ≡ places = length-take-le places cs (pass .coeffs) in
+        let sets : length (setsIn wordsEach (take setWords ss)) ≡ places =
+        level-places (take setWords ss) (take places cs) pass-level ∙ bytes in
         rw (is, is′, part-of list, part-of other)
-        (buildable s t n (list .gates) (other .gates) (take places ss) (take places cs) (list .reads) (other .reads) (pass .variables)
-        (rw (length-take-le places ss (pass .sets)) (le-refl places)) (rw (length-take-le places cs (pass .coeffs)) (le-refl places)))
+        (buildable s t n (list .gates) (other .gates) (setsIn wordsEach (take setWords ss)) (take places cs) (list .reads) (other .reads)
+        (pass .variables) (rw sets (le-refl places)) (rw bytes (le-refl places)))
 
     -- comparing them gives what is said of the pair
     pub pass-said : {o : Result} → o ≡ compare 0 n (gatesIn part) (gatesIn part′) → says o ≡ comparison s t (length ss) (length cs)
@@ -199,7 +207,3 @@ module _ (s t : List ℕ) (w c : ℕ) (a : Answer) (said : saidOf a ≡ comparis
       ),
     ),
   )
-
--- zeros over all the m places of a list
-pub zeros-all : (m : ℕ) (xs ys : List ℕ) → ys ≡ over m [] xs → length xs ≡ m → ys ≡ replicate m 0
-zeros-all m xs ys e same = e ∙ (over-padded m [] xs (omega arith) ∙ rw (sub-zero, ← same, drop-length, append-nil))

@@ -25,7 +25,7 @@ use Rattle.record_format.proofs.Rows.{first-none, first-some}
 use Rattle.record_format.proofs.Parts.{gates-of-part}
 use Rattle.amplitude.specs.Circuit.{hGates}
 use Rattle.gate_counting.proofs.Tallying.{h-gates-few}
-use Rattle.phase_sum_meaning.specs.Room.{mostVariables, places}
+use Rattle.phase_sum_meaning.specs.Room.{mostVariables, places, setWords}
 use Rattle.record_format.specs.Pair.{PairFault, inFirst, inSecond, ofPair}
 use Rattle.comparison_types.specs.Call.{faultOf, pairRows, workspaceRows, pairFault}
 use Rattle.comparison_types.specs.Inner.{AcceptedWith, foundFault}
@@ -148,6 +148,6 @@ module _ (s t : List ℕ) (below : List (Row PairFault)) (r : PairCheck) (found 
 
 -- a pair that passed is refused by 10 where a workspace is short
 pub call-decides : (s t : List ℕ) (w c : ℕ) (r : PairCheck) → foundFault r ≡ pairFault (read s) (read t) [] → {n g h : ℕ} → r ≡ Good n g h →
-    (b : Bool) → b ≡ (ltb w places || ltb c places) → cond b (some (ofPair 10)) none ≡ pairFault (read s) (read t) (workspaceRows w c)
+    (b : Bool) → b ≡ (ltb w setWords || ltb c places) → cond b (some (ofPair 10)) none ≡ pairFault (read s) (read t) (workspaceRows w c)
 unfolding first
 call-decides s t w c r found is b short = rw (call-rest s t (workspaceRows w c) r found is, short)

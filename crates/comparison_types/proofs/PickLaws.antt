@@ -21,6 +21,7 @@ use Rattle.amplitude.proofs.Linear.{ω^-zero}
 use Rattle.comparison_meaning.specs.Demands.{Accepted}
 use Rattle.comparison_meaning.specs.Verdict.{Result}
 use Rattle.record_format.specs.Pair.{PairFault, ofPair}
+use Rattle.phase_sum_meaning.specs.Room.{places, setWords}
 use Rattle.comparison_types.specs.Call.{faultOf, Said, says, refuses, verdictOf, resultOf, saidOf, workspaceRows, pairFault, compareRead, unlessFault, comparison, leftBy, better, Choice, theFirst, theSecond, nothing, isEqual, choice, picked, ownBytes, pickedPart, pickedAt}
 use Rattle.comparison_types.specs.Clauses.{Sound, PickIsRight, EmptyIfRefused}
 use Rattle.comparison_types.specs.Inner.{AcceptedWith, ComparedRead}
@@ -249,13 +250,13 @@ module _ (s t : List ℕ) (w c : ℕ) where
 pub picks {ℓ} :
     {B : Type ℓ} (s t ss cs ss′ cs′ : List ℕ) (a : Answer) (x : Choice) (p q r : B) (part : List ℕ)
     → saidOf a ≡ comparison s t (length ss) (length cs)
-    → (ss′ ≡ leftBy (saidOf a) ss) × (cs′ ≡ leftBy (saidOf a) cs)
+    → (ss′ ≡ leftBy setWords (saidOf a) ss) × (cs′ ≡ leftBy places (saidOf a) cs)
     → picked s t (length ss) (length cs) ≡ x
     → part ≡ pickedPart x s t
     → r ≡ pickedAt x p q
     → (part ≡ pickedPart (picked s t (length ss) (length cs)) s t)
     × ((r ≡ pickedAt (picked s t (length ss) (length cs)) p q)
-    × (((ss′ ≡ leftBy (comparison s t (length ss) (length cs)) ss) × (cs′ ≡ leftBy (comparison s t (length ss) (length cs)) cs))
+    × (((ss′ ≡ leftBy setWords (comparison s t (length ss) (length cs)) ss) × (cs′ ≡ leftBy places (comparison s t (length ss) (length cs)) cs))
     × (PickIsRight s t (length ss) (length cs) part × EmptyIfRefused s t (length ss) (length cs) part)))
 picks s t ss cs ss′ cs′ a x p q r part said kept is content start =
     let whole : part ≡ pickedPart (picked s t (length ss) (length cs)) s t = rw is content in

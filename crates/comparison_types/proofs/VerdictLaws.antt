@@ -103,7 +103,7 @@ unfolding ones onesIn
 members-empty s l = go (eqb s 0) refl
   where
     go : (b : Bool) → eqb s 0 ≡ b → eqb (length (members s)) 0 ≡ b
-    go true e = rw (eqb-true s 0 e, length-members 0 (omega arith))
+    go true e = rw (eqb-true s 0 e, length-members 0 (pow-pos mostVariables))
     go false e = ne-eqb (length (members s)) 0 (λ h. eqb-false s 0 e (members-none s l (length-nil (members s) h)))
 
 -- reducing leaves a blocked end as it is

@@ -13,7 +13,7 @@ use Rattle.record_format.specs.Reading.{Reading, accepted, refused, read, count
 use Rattle.record_format.specs.Answer as list
 use Rattle.record_format.specs.Pair.{PairFault, inFirst, inSecond, ofPair, numberIn, pairRow}
 use Rattle.amplitude.specs.Circuit.{hGates, tGates}
-use Rattle.phase_sum_meaning.specs.Room.{mostVariables, places}
+use Rattle.phase_sum_meaning.specs.Room.{mostVariables, places, setWords}
 use Rattle.comparison_meaning.specs.Verdict as verdict
 use Rattle.comparison_meaning.specs.Verdict.{Result, numbered, compare}
 use Rattle.comparison_types.specs.declared.Verdict.{Verdict}
@@ -79,10 +79,10 @@ pairRows n m gs hs =
     ∷ pairRow 9 (ltb mostVariables (n + (hGates gs + hGates hs)))
     ∷ []
 
--- and below them its row for workspaces of w and c places
+-- and below them its row for workspaces of w words and c bytes
 abbrev pub workspaceRows : ℕ → ℕ → List (Row PairFault)
 workspaceRows w c =
-    pairRow 10 (ltb w places || ltb c places)
+    pairRow 10 (ltb w setWords || ltb c places)
     ∷ []
 
 -- the first list is read, then the second, then the pair's rows and those below them are tried from top to bottom
@@ -106,10 +106,11 @@ unlessFault (some f) s = refuses f
 abbrev pub comparison : List ℕ → List ℕ → ℕ → ℕ → Said
 comparison s t w c = unlessFault (pairFault (read s) (read t) (workspaceRows w c)) (compareRead (read s) (read t))
 
--- a lent workspace afterwards: unchanged where the call is refused, else zeros in the first 3,136 places and the others unchanged
-abbrev pub leftBy : Said → List ℕ → List ℕ
-leftBy (says r) old = replicate places 0 ++ drop places old
-leftBy (refuses f) old = old
+-- a lent workspace of which a comparison uses m words or bytes, afterwards: unchanged where the call is refused, else zeros in the first m
+-- and the others unchanged
+abbrev pub leftBy : ℕ → Said → List ℕ → List ℕ
+leftBy m (says r) old = replicate m 0 ++ drop m old
+leftBy m (refuses f) old = old
 
 -- the second list is better: fewer T gates, or as many and fewer gates
 abbrev pub better : List Gate → List Gate → Bool
@@ -133,7 +134,7 @@ choice (says o) (accepted n gs) (accepted m hs) = cond (isEqual (o .verdict)) (c
 choice (says o) (accepted n gs) (refused f) = nothing
 choice (says o) (refused f) q = nothing
 
--- what the pick chooses for two records and workspaces of w and c places
+-- what the pick chooses for two records and workspaces of w words and c bytes
 abbrev pub picked : List ℕ → List ℕ → ℕ → ℕ → Choice
 picked s t w c = choice (comparison s t w c) (read s) (read t)
 

@@ -12,7 +12,7 @@ use Rattle.record_format.specs.Row.{Fault, Row}
 use Rattle.record_format.specs.Reading.{qubits, gates, accepted, refused, read}
 use Rattle.record_format.specs.Promises.{NoneHolds, FirstHolds}
 use Rattle.amplitude.specs.Circuit.{hGates}
-use Rattle.phase_sum_meaning.specs.Room.{mostVariables, places}
+use Rattle.phase_sum_meaning.specs.Room.{mostVariables, places, setWords}
 use Rattle.comparison_meaning.specs.Verdict.{Result, compare}
 use Rattle.record_format.specs.Pair.{PairFault, inFirst, inSecond, pairRow, bothRows}
 use Rattle.comparison_types.specs.Call.{faultOf, says, refuses, comparison}
@@ -27,9 +27,9 @@ pairTable s t below =
     ∷ below
     )
 
--- the whole table for the bytes s and t and workspaces of w and c places
+-- the whole table for the bytes s and t and workspaces of w words and c bytes
 abbrev pub callRows : List ℕ → List ℕ → ℕ → ℕ → List (Row PairFault)
-callRows s t w c = pairTable s t (pairRow 10 (ltb w places || ltb c places) ∷ [])
+callRows s t w c = pairTable s t (pairRow 10 (ltb w setWords || ltb c places) ∷ [])
 
 -- a pair is refused by the fault of the first row of the table that holds for it
 abbrev pub PairRefusedByFirstRow : Type 0

@@ -43,11 +43,11 @@ pub enum Refusal {
     Second(record_format::Refusal),
     // 8: their n differ
     QubitsDiffer,
-    // 9: n and the H gates of both are above 64
+    // 9: n and the H gates of both are above 128
     TooManyVariables,
     // 14: of a block for the dense comparison, n is above 6 or both lists have more than 60 H gates
     BlockTooLarge,
-    // 10: a workspace has under 3,136 places, or the buffer of the dense comparison under 512
+    // 10: the sets have under 6,400 words, the coefficients under 3,200 bytes, or the buffer of the dense comparison under 512 numbers
     WorkspaceShort,
 }
 

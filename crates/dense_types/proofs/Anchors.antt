@@ -36,12 +36,12 @@ unfolding fault
 six-qubits = (refl, refl)
 
 -- 60 H gates pass, in one list or in both, and 61 get 14
-sixty-h-gates : (fault 4 60 0 512 ≡ none) × (fault 4 0 60 512 ≡ none) × (fault 3 31 30 512 ≡ some (ofPair 14)) × (fault 3 0 61 512 ≡ some (ofPair 14))
+sixty-h-gates : (fault 6 60 0 512 ≡ none) × (fault 4 0 60 512 ≡ none) × (fault 3 31 30 512 ≡ some (ofPair 14)) × (fault 3 0 61 512 ≡ some (ofPair 14))
 unfolding fault
 sixty-h-gates = (refl, refl, refl, refl)
 
 -- 9 stands before 14, and 14 before 10
-in-order : (fault 5 60 0 512 ≡ some (ofPair 9)) × (fault 7 57 0 0 ≡ some (ofPair 14)) × (fault 7 58 0 0 ≡ some (ofPair 9))
+in-order : (fault 5 124 0 512 ≡ some (ofPair 9)) × (fault 7 121 0 0 ≡ some (ofPair 14)) × (fault 7 122 0 0 ≡ some (ofPair 9))
 unfolding fault
 in-order = (refl, refl, refl)
 

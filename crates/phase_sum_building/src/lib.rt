@@ -9,7 +9,7 @@ ghost use Rattle.record_format.specs.Reading.{gatesIn};
 ghost use Rattle.phase_sum_meaning.specs.Sets.{from};
 ghost use Rattle.phase_sum_meaning.specs.Building.{initial};
 ghost use Rattle.phase_sum_meaning.specs.Room.{mostVariables};
-ghost use Rattle.phase_sum_types.specs.Workspace.{setOf, slices, lent, before, after, members};
+ghost use Rattle.phase_sum_types.specs.Workspace.{setOf, setsAt, Level, Levelled, slices, lent, before, after, members};
 ghost use Rattle.phase_sum_types.specs.Unmerged.{miterIn, Runnable, Leaves, RunsAll, Builds, Buildable};
 use phase_sum_gates::run_gate;
 use phase_sum_merging::canonical;
@@ -34,7 +34,7 @@ pub fn forwards(
     sets: &mut [u64],
     coeffs: &mut [u8],
 ) -> Run
-    requires { ⌜ (length (now gates) % 3 ≡ 0) × Runnable run (gatesIn (now gates)) (lent ws fs sets coeffs) ⌝ }
+    requires { ⌜ (length (now gates) % 3 ≡ 0) × Runnable run (gatesIn (now gates)) (lent ws fs sets coeffs) × Levelled ws fs sets coeffs ⌝ }
     ensures { λ r. ⌜ RunsAll (gatesIn (now (gates .entry))) run r (before ws fs sets coeffs) (after ws fs sets coeffs) ⌝ }
 {
     let mut now = run;
@@ -62,7 +62,7 @@ pub fn backwards(
     sets: &mut [u64],
     coeffs: &mut [u8],
 ) -> Run
-    requires { ⌜ (length (now gates) % 3 ≡ 0) × Runnable run (inverseList (gatesIn (now gates))) (lent ws fs sets coeffs) ⌝ }
+    requires { ⌜ (length (now gates) % 3 ≡ 0) × Runnable run (inverseList (gatesIn (now gates))) (lent ws fs sets coeffs) × Levelled ws fs sets coeffs ⌝ }
     ensures { λ r. ⌜ RunsAll (inverseList (gatesIn (now (gates .entry)))) run r (before ws fs sets coeffs) (after ws fs sets coeffs) ⌝ }
 {
     let mut now = run;
@@ -83,10 +83,10 @@ pub fn backwards(
 
 // The sum of no gates, on as many qubits as there are wires: no phase yet, and each wire its own input.
 fn start(ws: &mut [u64], fs: &mut [bool]) -> Run
-    requires { ⌜ (length (now ws) ≤ 16) × (length (now fs) ≡ length (now ws)) ⌝ }
-    ensures { λ r. ⌜ ((ss cs : List ℕ) → Leaves (initial 0 (length (now (ws .entry)))) 0 r (slices (now (ws .entry)) (now (fs .entry)) ss cs) (slices (now (ws .exit)) (now (fs .exit)) ss cs)) ⌝ }
+    requires { ⌜ (length (now fs) ≤ 16) × Level (now ws) (now fs) ⌝ }
+    ensures { λ r. ⌜ ((ss cs : List ℕ) → Leaves (initial 0 (length (now (fs .entry)))) 0 r (slices (setsAt (ws .entry)) (now (fs .entry)) ss cs) (slices (setsAt (ws .exit)) (now (fs .exit)) ss cs)) ⌝ }
 {
-    let n = ws.len();
+    let n = fs.len();
     let mut q = 0;
     while q < n {
         store(ws, q, single(q as u32));
@@ -125,10 +125,10 @@ pub fn build(
     sets: &mut [u64],
     coeffs: &mut [u8],
 ) -> Sum
-    requires { ⌜ (length (now fs) ≡ length (now ws)) × Buildable (length (now ws)) (now first) (now second) (now sets) (now coeffs) ⌝ }
+    requires { ⌜ Buildable (length (now fs)) (now first) (now second) (setsAt sets) (now coeffs) × Levelled ws fs sets coeffs ⌝ }
     ensures { λ r. ⌜ Builds (miterIn (now (first .entry)) (now (second .entry))) r (before ws fs sets coeffs) (after ws fs sets coeffs) ⌝ }
 {
-    let n = ws.len();
+    let n = fs.len();
     let begun = start(ws, fs);
     let half = forwards(begun, first, ws, fs, sets, coeffs);
     let whole = backwards(half, second, ws, fs, sets, coeffs);

@@ -5,10 +5,9 @@ ghost use Prim.Native.Nat.{ℕ, _+_, _<_, _≤_};
 ghost use mathlib.Core.Bool.{false};
 ghost use mathlib.Core.List.{[], _∷_};
 ghost use lib.ListN.{length};
-ghost use Rattle.record_format.specs.Gate.{gateOf, raw, one, two, X, Y, CZ};
-ghost use Rattle.phase_sum_meaning.specs.Parity.{_⊕_};
+ghost use Rattle.record_format.specs.Gate.{gateOf, raw, one, two, Y, CZ};
 ghost use Rattle.phase_sum_meaning.specs.Building.{PathSum, productBy};
-ghost use Rattle.phase_sum_types.specs.Workspace.{phaseOf, Phased, alone, parityOf, lent, before, after};
+ghost use Rattle.phase_sum_types.specs.Workspace.{setsAt, Level, Levelled, phaseOf, Phased, alone, parityOf, lent, before, after};
 ghost use Rattle.phase_sum_types.specs.Unmerged.{putBehind, appendGate, sumIn, Runnable, Leaves, Runs, movesOnly};
 ghost use Rattle.phase_sum_types.specs.Inner.{onH, appendPhase};
 use phase_sum_moving::both;
@@ -26,8 +25,8 @@ use record_format::gate;
 
 // A phase c on a wire, as one term more: on a complemented parity, c to the constant and the term −c.
 pub fn put_phase(phase: Phase, c: u8, w: Parity, sets: &mut [u64], coeffs: &mut [u8]) -> Phase
-    requires { ⌜ (phase .count < length (now sets)) × (phase .count < length (now coeffs)) ⌝ }
-    ensures { λ r. ⌜ Phased (putBehind c (parityOf w) (phaseOf phase (now (sets .entry)) (now (coeffs .entry)))) (phase .count) r (now (sets .entry)) (now (coeffs .entry)) (now (sets .exit)) (now (coeffs .exit)) ⌝ }
+    requires { ⌜ Level (now sets) (now coeffs) × (phase .count < length (now coeffs)) ⌝ }
+    ensures { λ r. ⌜ Phased (putBehind c (parityOf w) (phaseOf phase (setsAt (sets .entry)) (now (coeffs .entry)))) (phase .count) r (setsAt (sets .entry)) (now (coeffs .entry)) (setsAt (sets .exit)) (now (coeffs .exit)) ⌝ }
 {
     let count = phase.count;
     if w.flipped {
@@ -44,8 +43,8 @@ pub fn put_phase(phase: Phase, c: u8, w: Parity, sets: &mut [u64], coeffs: &mut 
 
 // 4 on the product of two wires, by 4uv = 2u + 2v − 2(u ⊕ v).
 pub fn put_product(phase: Phase, u: Parity, v: Parity, sets: &mut [u64], coeffs: &mut [u8]) -> Phase
-    requires { ⌜ (phase .count + 3 ≤ length (now sets)) × (phase .count + 3 ≤ length (now coeffs)) ⌝ }
-    ensures { λ r. ⌜ Phased (productBy putBehind (parityOf u) (parityOf v) (alone (phaseOf phase (now (sets .entry)) (now (coeffs .entry)))) .phase) (phase .count) r (now (sets .entry)) (now (coeffs .entry)) (now (sets .exit)) (now (coeffs .exit)) ⌝ }
+    requires { ⌜ Level (now sets) (now coeffs) × (phase .count + 3 ≤ length (now coeffs)) ⌝ }
+    ensures { λ r. ⌜ Phased (productBy putBehind (parityOf u) (parityOf v) (alone (phaseOf phase (setsAt (sets .entry)) (now (coeffs .entry)))) .phase) (phase .count) r (setsAt (sets .entry)) (now (coeffs .entry)) (setsAt (sets .exit)) (now (coeffs .exit)) ⌝ }
 {
     let once = put_phase(phase, 2, u, sets, coeffs);
     let twice = put_phase(once, 2, v, sets, coeffs);
@@ -76,7 +75,7 @@ fn diagonal(
     sets: &mut [u64],
     coeffs: &mut [u8],
 ) -> Run
-    requires { ⌜ (q < length (now ws)) × (length (now fs) ≡ length (now ws)) × (length (now ws) ≤ run .next) × (run .phase .count < length (now sets)) × (run .phase .count < length (now coeffs)) ⌝ }
+    requires { ⌜ (q < length (now fs)) × (length (now fs) ≤ run .next) × (run .phase .count < length (now coeffs)) × Levelled ws fs sets coeffs ⌝ }
     ensures { λ r. ⌜ Leaves (appendPhase c q (sumIn run (before ws fs sets coeffs))) (run .phase .count) r (before ws fs sets coeffs) (after ws fs sets coeffs) ⌝ }
 {
     let phase = run.phase;
@@ -95,7 +94,7 @@ fn y_gate(
     sets: &mut [u64],
     coeffs: &mut [u8],
 ) -> Run
-    requires { ⌜ Runnable run (one Y q ∷ []) (lent ws fs sets coeffs) ⌝ }
+    requires { ⌜ Runnable run (one Y q ∷ []) (lent ws fs sets coeffs) × Levelled ws fs sets coeffs ⌝ }
     ensures { λ r. ⌜ Runs (one Y q) run r (before ws fs sets coeffs) (after ws fs sets coeffs) ⌝ }
 {
     let old = run.phase;
@@ -119,7 +118,7 @@ fn hadamard(
     sets: &mut [u64],
     coeffs: &mut [u8],
 ) -> Run
-    requires { ⌜ Runnable run (onH q ∷ []) (lent ws fs sets coeffs) ⌝ }
+    requires { ⌜ Runnable run (onH q ∷ []) (lent ws fs sets coeffs) × Levelled ws fs sets coeffs ⌝ }
     ensures { λ r. ⌜ Runs (onH q) run r (before ws fs sets coeffs) (after ws fs sets coeffs) ⌝ }
 {
     let old = run.phase;
@@ -146,7 +145,7 @@ fn controlled_z(
     sets: &mut [u64],
     coeffs: &mut [u8],
 ) -> Run
-    requires { ⌜ Runnable run (two CZ a b ∷ []) (lent ws fs sets coeffs) ⌝ }
+    requires { ⌜ Runnable run (two CZ a b ∷ []) (lent ws fs sets coeffs) × Levelled ws fs sets coeffs ⌝ }
     ensures { λ r. ⌜ Runs (two CZ a b) run r (before ws fs sets coeffs) (after ws fs sets coeffs) ⌝ }
 {
     let phase = run.phase;
@@ -167,7 +166,7 @@ pub fn run_gate(
     sets: &mut [u64],
     coeffs: &mut [u8],
 ) -> Run
-    requires { ⌜ (movesOnly (gateOf (raw kind a b)) ≡ false) × Runnable run (gateOf (raw kind a b) ∷ []) (lent ws fs sets coeffs) ⌝ }
+    requires { ⌜ (movesOnly (gateOf (raw kind a b)) ≡ false) × Runnable run (gateOf (raw kind a b) ∷ []) (lent ws fs sets coeffs) × Levelled ws fs sets coeffs ⌝ }
     ensures { λ r. ⌜ Runs (gateOf (raw kind a b)) run r (before ws fs sets coeffs) (after ws fs sets coeffs) ⌝ }
 {
     let p = a as usize;

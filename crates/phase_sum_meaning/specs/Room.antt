@@ -1,6 +1,6 @@
 -- The room that the terms of a pair may take: document 02, item 11.
 -- Assumes nothing.
-use Prim.Native.Nat.{ℕ, _+_}
+use Prim.Native.Nat.{ℕ, _+_, _*_}
 use mathlib.Core.List.{List}
 use Rattle.record_format.specs.Gate.{Gate, one, two, X, Y, Z, S, S†, T, T†, H, CX, CZ, SWAP}
 use Rattle.amplitude.specs.Circuit.{tally}
@@ -23,10 +23,18 @@ roomFor (two SWAP a b) = 0
 abbrev pub room : List Gate → List Gate → ℕ
 room first second = tally roomFor first + tally roomFor second
 
--- document 01's limit of number 9: n and the H gates of both lists together
+-- the limit of number 9, as document 02, item 6, sets it: n and the H gates of both lists together
 abbrev pub mostVariables : ℕ
-mostVariables = 64
+mostVariables = 128
 
--- document 01's places of a workspace
+-- the places of a workspace: a coefficient each, or a set
 abbrev pub places : ℕ
-places = 3136
+places = 3200
+
+-- the words of a set
+abbrev pub wordsEach : ℕ
+wordsEach = 2
+
+-- the words of a workspace
+abbrev pub setWords : ℕ
+setWords = wordsEach * places

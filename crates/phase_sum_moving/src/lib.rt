@@ -6,7 +6,7 @@ ghost use mathlib.Core.Bool.{true};
 ghost use lib.ListN.{length};
 ghost use Rattle.record_format.specs.Gate.{Within, gateOf, raw, one, two, X, CX, CZ, SWAP};
 ghost use Rattle.phase_sum_meaning.specs.Parity.{_⊕_};
-ghost use Rattle.phase_sum_types.specs.Workspace.{parityOf, zipWires, lent};
+ghost use Rattle.phase_sum_types.specs.Workspace.{setsAt, placesIn, Level, parityOf, zipWires};
 ghost use Rattle.phase_sum_types.specs.Unmerged.{movesOnly, Moves};
 use phase_sum_sets::exclusive_or;
 use phase_sum_terms::wires::set_wire;
@@ -26,16 +26,16 @@ pub fn both(u: Parity, v: Parity) -> Parity
 
 // X: wire q complemented.
 pub fn flip_wire(ws: &[u64], fs: &mut [bool], q: usize)
-    requires { ⌜ (q < length (now ws)) × (q < length (now fs)) ⌝ }
-    ensures { λ _. ⌜ Moves (one X q) (zipWires (now (ws .entry)) (now (fs .entry))) (zipWires (now (ws .entry)) (now (fs .exit))) ⌝ }
+    requires { ⌜ (q < placesIn (now ws)) × (q < length (now fs)) ⌝ }
+    ensures { λ _. ⌜ Moves (one X q) (zipWires (setsAt (ws .entry)) (now (fs .entry))) (zipWires (setsAt (ws .entry)) (now (fs .exit))) ⌝ }
 {
     fs[q] = !fs[q];
 }
 
 // CX: the control added to the target.
 fn add_wire(ws: &mut [u64], fs: &mut [bool], control: usize, target: usize)
-    requires { ⌜ (control < length (now ws)) × (target < length (now ws)) × (length (now fs) ≡ length (now ws)) ⌝ }
-    ensures { λ _. ⌜ Moves (two CX control target) (zipWires (now (ws .entry)) (now (fs .entry))) (zipWires (now (ws .exit)) (now (fs .exit))) ⌝ }
+    requires { ⌜ (control < length (now fs)) × (target < length (now fs)) × Level (now ws) (now fs) ⌝ }
+    ensures { λ _. ⌜ Moves (two CX control target) (zipWires (setsAt (ws .entry)) (now (fs .entry))) (zipWires (setsAt (ws .exit)) (now (fs .exit))) ⌝ }
 {
     let sum = both(wire(ws, fs, target), wire(ws, fs, control));
     set_wire(ws, fs, target, sum);
@@ -43,8 +43,8 @@ fn add_wire(ws: &mut [u64], fs: &mut [bool], control: usize, target: usize)
 
 // SWAP: two wires exchanged.
 fn swap_wires(ws: &mut [u64], fs: &mut [bool], a: usize, b: usize)
-    requires { ⌜ (a < length (now ws)) × (b < length (now ws)) × (length (now fs) ≡ length (now ws)) ⌝ }
-    ensures { λ _. ⌜ Moves (two SWAP a b) (zipWires (now (ws .entry)) (now (fs .entry))) (zipWires (now (ws .exit)) (now (fs .exit))) ⌝ }
+    requires { ⌜ (a < length (now fs)) × (b < length (now fs)) × Level (now ws) (now fs) ⌝ }
+    ensures { λ _. ⌜ Moves (two SWAP a b) (zipWires (setsAt (ws .entry)) (now (fs .entry))) (zipWires (setsAt (ws .exit)) (now (fs .exit))) ⌝ }
 {
     let first = wire(ws, fs, a);
     let second = wire(ws, fs, b);
@@ -67,8 +67,8 @@ pub fn moves(kind: u8) -> bool
 
 // A gate that only moves wires, given by its three bytes.
 pub fn move_wires(kind: u8, a: u8, b: u8, ws: &mut [u64], fs: &mut [bool])
-    requires { ⌜ (movesOnly (gateOf (raw kind a b)) ≡ true) × Within (length (now ws)) (gateOf (raw kind a b)) × (length (now fs) ≡ length (now ws)) ⌝ }
-    ensures { λ _. ⌜ Moves (gateOf (raw kind a b)) (zipWires (now (ws .entry)) (now (fs .entry))) (zipWires (now (ws .exit)) (now (fs .exit))) ⌝ }
+    requires { ⌜ (movesOnly (gateOf (raw kind a b)) ≡ true) × Within (length (now fs)) (gateOf (raw kind a b)) × Level (now ws) (now fs) ⌝ }
+    ensures { λ _. ⌜ Moves (gateOf (raw kind a b)) (zipWires (setsAt (ws .entry)) (now (fs .entry))) (zipWires (setsAt (ws .exit)) (now (fs .exit))) ⌝ }
 {
     let p = a as usize;
     let q = b as usize;

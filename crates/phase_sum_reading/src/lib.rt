@@ -3,17 +3,16 @@
 ghost use mathlib.Core.Path.{_≡_};
 ghost use Prim.Native.Nat.{_+_, _/_, _%_, _<_, _≤_};
 ghost use mathlib.Core.Bool.{cond, _&&_};
-ghost use lib.ListN.{length};
+ghost use lib.ListN.{length, getD};
 ghost use lib.Dec.{eqb};
 ghost use Rattle.amplitude.specs.Bits.{bit};
-ghost use Rattle.phase_sum_meaning.specs.Parity.{of};
 ghost use Rattle.phase_sum_meaning.specs.Stepping.{outOf, halfSum, oddHalves};
 ghost use Rattle.phase_sum_meaning.specs.Room.{mostVariables};
 ghost use Rattle.phase_sum_types.specs.Inner.{OddMask, oddBoth};
-ghost use Rattle.phase_sum_types.specs.Workspace.{setOf, held};
+ghost use Rattle.phase_sum_types.specs.Workspace.{setOf, setsAt, placesIn, held};
 use phase_sum_sets::empty;
 use phase_sum_sets::exclusive_or;
-use phase_sum_sets::holds;
+use phase_sum_sets::holds_at;
 use phase_sum_sets::holds_both;
 use phase_sum_sets::load;
 use phase_sum_sets::union;
@@ -33,8 +32,8 @@ fn odd_set(set: Set, coeff: u8) -> Set
 
 // The variables that are in terms of odd coefficient.
 pub fn odd_mask(sets: &[u64], coeffs: &[u8], count: usize) -> Set
-    requires { ⌜ (count ≤ length (now sets)) × (count ≤ length (now coeffs)) ⌝ }
-    ensures { λ r. ⌜ OddMask (setOf r) (held count (now (sets .entry)) (now (coeffs .entry))) ⌝ }
+    requires { ⌜ (count ≤ placesIn (now sets)) × (count ≤ length (now coeffs)) ⌝ }
+    ensures { λ r. ⌜ OddMask (setOf r) (held count (setsAt (sets .entry)) (now (coeffs .entry))) ⌝ }
 {
     let mut mask = empty();
     let mut i = 0;
@@ -58,8 +57,8 @@ fn odd_if_both(set: Set, coeff: u8, i: u32, j: u32) -> Set
 
 // The exclusive or of the sets of the terms of odd coefficient that hold both variables.
 fn odd_both(sets: &[u64], coeffs: &[u8], count: usize, i: u32, j: u32) -> Set
-    requires { ⌜ (i < mostVariables) × (j < mostVariables) × (count ≤ length (now sets)) × (count ≤ length (now coeffs)) ⌝ }
-    ensures { λ r. ⌜ setOf r ≡ oddBoth i j (held count (now (sets .entry)) (now (coeffs .entry))) ⌝ }
+    requires { ⌜ (i < mostVariables) × (j < mostVariables) × (count ≤ placesIn (now sets)) × (count ≤ length (now coeffs)) ⌝ }
+    ensures { λ r. ⌜ setOf r ≡ oddBoth i j (held count (setsAt (sets .entry)) (now (coeffs .entry))) ⌝ }
 {
     let mut both = empty();
     let mut t = 0;
@@ -72,8 +71,8 @@ fn odd_both(sets: &[u64], coeffs: &[u8], count: usize, i: u32, j: u32) -> Set
 
 // The same with the mask of the variables in terms of odd coefficient: where it has not both, the terms need no pass.
 pub fn odd_both_in(mask: Set, sets: &[u64], coeffs: &[u8], count: usize, i: u32, j: u32) -> Set
-    requires { ⌜ (i < mostVariables) × (j < mostVariables) × (count ≤ length (now sets)) × (count ≤ length (now coeffs)) × OddMask (setOf mask) (held count (now sets) (now coeffs)) ⌝ }
-    ensures { λ r. ⌜ setOf r ≡ oddBoth i j (held count (now (sets .entry)) (now (coeffs .entry))) ⌝ }
+    requires { ⌜ (i < mostVariables) × (j < mostVariables) × (count ≤ placesIn (now sets)) × (count ≤ length (now coeffs)) × OddMask (setOf mask) (held count (setsAt sets) (now coeffs)) ⌝ }
+    ensures { λ r. ⌜ setOf r ≡ oddBoth i j (held count (setsAt (sets .entry)) (now (coeffs .entry))) ⌝ }
 {
     if holds_both(mask, i, j) {
         return odd_both(sets, coeffs, count, i, j);
@@ -87,25 +86,25 @@ pub struct Halves {
     pub l: Set,
 }
 
-// A term's coefficient where it holds y, else 0.
-fn coeff_with(set: Set, coeff: u8, y: u32) -> u8
-    requires { ⌜ y < mostVariables ⌝ }
-    ensures { λ r. ⌜ r ≡ cond (bit y (setOf set)) coeff 0 ⌝ }
+// The coefficient of the term at a place where it holds y, else 0.
+fn coeff_with(sets: &[u64], coeffs: &[u8], i: usize, y: u32) -> u8
+    requires { ⌜ (y < mostVariables) × (i < placesIn (now sets)) × (i < length (now coeffs)) ⌝ }
+    ensures { λ r. ⌜ r ≡ cond (bit y (getD (setsAt (sets .entry)) i 0)) (getD (now (coeffs .entry)) i 0) 0 ⌝ }
 {
-    if holds(set, y) {
-        return coeff;
+    if holds_at(sets, i, y) {
+        return coeffs[i];
     }
     0
 }
 
-// A term's set without y where it holds y and its half coefficient is odd, else the empty set.
-fn odd_half(set: Set, coeff: u8, y: u32) -> Set
-    requires { ⌜ y < mostVariables ⌝ }
-    ensures { λ r. ⌜ setOf r ≡ cond (bit y (setOf set)) (cond (eqb (coeff / 2 % 2) 1) (outOf y (setOf set)) 0) 0 ⌝ }
+// The set of the term at a place without y where it holds y and its half coefficient is odd, else the empty set.
+fn odd_half(sets: &[u64], coeffs: &[u8], i: usize, y: u32) -> Set
+    requires { ⌜ (y < mostVariables) × (i < placesIn (now sets)) × (i < length (now coeffs)) ⌝ }
+    ensures { λ r. ⌜ setOf r ≡ cond (bit y (getD (setsAt (sets .entry)) i 0)) (cond (eqb (getD (now (coeffs .entry)) i 0 / 2 % 2) 1) (outOf y (getD (setsAt (sets .entry)) i 0)) 0) 0 ⌝ }
 {
-    if holds(set, y) {
-        if coeff / 2 % 2 == 1 {
-            return without(set, y);
+    if holds_at(sets, i, y) {
+        if coeffs[i] / 2 % 2 == 1 {
+            return without(load(sets, i), y);
         }
         return empty();
     }
@@ -115,17 +114,16 @@ fn odd_half(set: Set, coeff: u8, y: u32) -> Set
 // C: half the sum of the coefficients of the terms that hold y, mod 4. L: the exclusive or of their sets without y, over those
 // whose half coefficient is odd.
 pub fn halves_of(sets: &[u64], coeffs: &[u8], count: usize, y: u32) -> Halves
-    requires { ⌜ (y < mostVariables) × (count ≤ length (now sets)) × (count ≤ length (now coeffs)) ⌝ }
-    ensures c { λ r. ⌜ r .c ≡ halfSum y (held count (now (sets .entry)) (now (coeffs .entry))) ⌝ }
-    ensures l { λ r. ⌜ setOf (r .l) ≡ oddHalves y (held count (now (sets .entry)) (now (coeffs .entry))) ⌝ }
+    requires { ⌜ (y < mostVariables) × (count ≤ placesIn (now sets)) × (count ≤ length (now coeffs)) ⌝ }
+    ensures c { λ r. ⌜ r .c ≡ halfSum y (held count (setsAt (sets .entry)) (now (coeffs .entry))) ⌝ }
+    ensures l { λ r. ⌜ setOf (r .l) ≡ oddHalves y (held count (setsAt (sets .entry)) (now (coeffs .entry))) ⌝ }
 {
     let mut sum = 0;
     let mut l = empty();
     let mut i = 0;
     while i < count {
-        let set = load(sets, i);
-        sum = add(sum, coeff_with(set, coeffs[i], y));
-        l = exclusive_or(l, odd_half(set, coeffs[i], y));
+        sum = add(sum, coeff_with(sets, coeffs, i, y));
+        l = exclusive_or(l, odd_half(sets, coeffs, i, y));
         i += 1;
     }
     Halves { c: sum / 2, l }

@@ -6,12 +6,13 @@ ghost use mathlib.Core.List.{[], _∷_, _++_};
 ghost use lib.ListN.{length, take, drop, replicate};
 ghost use Rattle.phase_sum_meaning.specs.Sets.{parity};
 ghost use Rattle.phase_sum_meaning.specs.Phase.{term, minus, phaseAt};
-ghost use Rattle.phase_sum_types.specs.Workspace.{setOf, held, Stored};
+ghost use Rattle.phase_sum_types.specs.Workspace.{setOf, setsAt, placesIn, Level, held, Stored};
 use phase_sum_sets::load;
 use phase_sum_sets::parity;
 use phase_sum_sets::store;
 use phase_sum_types::Phase;
 use phase_sum_types::Set;
+use phase_sum_types::WORDS_EACH;
 
 // The sum of two coefficients mod 8.
 pub fn add(a: u8, b: u8) -> u8
@@ -29,8 +30,8 @@ pub fn negate(c: u8) -> u8
 
 // A term behind the first count terms, unmerged. Returns the new count.
 pub fn append(sets: &mut [u64], coeffs: &mut [u8], count: usize, set: Set, coeff: u8) -> usize
-    requires { ⌜ (count < length (now sets)) × (count < length (now coeffs)) ⌝ }
-    ensures { λ r. ⌜ Stored count (held count (now (sets .entry)) (now (coeffs .entry)) ++ term (setOf set) coeff ∷ []) r (now (sets .entry)) (now (coeffs .entry)) (now (sets .exit)) (now (coeffs .exit)) ⌝ }
+    requires { ⌜ Level (now sets) (now coeffs) × (count < length (now coeffs)) ⌝ }
+    ensures { λ r. ⌜ Stored count (held count (setsAt (sets .entry)) (now (coeffs .entry)) ++ term (setOf set) coeff ∷ []) r (setsAt (sets .entry)) (now (coeffs .entry)) (setsAt (sets .exit)) (now (coeffs .exit)) ⌝ }
 {
     store(sets, count, set);
     coeffs[count] = coeff;
@@ -63,20 +64,21 @@ fn zero_bytes(bytes: &mut [u8], from: usize, to: usize)
 
 // Zeros in both workspaces from one place up to another.
 pub fn zero(sets: &mut [u64], coeffs: &mut [u8], from: usize, to: usize)
-    requires { ⌜ (from ≤ to) × (to ≤ length (now sets)) × (to ≤ length (now coeffs)) ⌝ }
-    ensures words { λ _. ⌜ now (sets .exit) ≡ take from (now (sets .entry)) ++ replicate (to - from) 0 ++ drop to (now (sets .entry)) ⌝ }
+    requires { ⌜ (from ≤ to) × Level (now sets) (now coeffs) × (to ≤ length (now coeffs)) ⌝ }
+    ensures sets { λ _. ⌜ setsAt (sets .exit) ≡ take from (setsAt (sets .entry)) ++ replicate (to - from) 0 ++ drop to (setsAt (sets .entry)) ⌝ }
     ensures bytes { λ _. ⌜ now (coeffs .exit) ≡ take from (now (coeffs .entry)) ++ replicate (to - from) 0 ++ drop to (now (coeffs .entry)) ⌝ }
 {
-    zero_words(sets, from, to);
+    zero_words(sets, WORDS_EACH * from, WORDS_EACH * to);
     zero_bytes(coeffs, from, to);
 }
 
-// No terms: zeros in the first places of both workspaces.
-pub fn clear(sets: &mut [u64], coeffs: &mut [u8], places: usize)
-    requires { ⌜ (places ≤ length (now sets)) × (places ≤ length (now coeffs)) ⌝ }
-    ensures { λ _. ⌜ Stored places [] 0 (now (sets .entry)) (now (coeffs .entry)) (now (sets .exit)) (now (coeffs .exit)) ⌝ }
+// Zeros in every word and byte of both workspaces.
+pub fn clear(sets: &mut [u64], coeffs: &mut [u8])
+    ensures words { λ _. ⌜ now (sets .exit) ≡ replicate (length (now (sets .entry))) 0 ⌝ }
+    ensures bytes { λ _. ⌜ now (coeffs .exit) ≡ replicate (length (now (coeffs .entry))) 0 ⌝ }
 {
-    zero(sets, coeffs, 0, places);
+    zero_words(sets, 0, sets.len());
+    zero_bytes(coeffs, 0, coeffs.len());
 }
 
 // A coefficient where the term's parity is 1 at the input, else 0.
@@ -91,8 +93,8 @@ fn share(set: Set, coeff: u8, input: u64) -> u8
 
 // The phase at an input, mod 8.
 pub fn phase_at(sets: &[u64], coeffs: &[u8], phase: Phase, input: u64) -> u8
-    requires { ⌜ (phase .count ≤ length (now sets)) × (phase .count ≤ length (now coeffs)) ⌝ }
-    ensures { λ r. ⌜ r ≡ phaseAt (record { constant = phase .constant; terms = held (phase .count) (now (sets .entry)) (now (coeffs .entry)) }) input % 8 ⌝ }
+    requires { ⌜ (phase .count ≤ placesIn (now sets)) × (phase .count ≤ length (now coeffs)) ⌝ }
+    ensures { λ r. ⌜ r ≡ phaseAt (record { constant = phase .constant; terms = held (phase .count) (setsAt (sets .entry)) (now (coeffs .entry)) }) input % 8 ⌝ }
 {
     let count = phase.count;
     let mut sum = add(phase.constant, 0);

@@ -15,7 +15,7 @@ use Rattle.phase_sum_meaning.specs.Room.{room, mostVariables, places}
 use Rattle.phase_sum_types.specs.Unmerged.{Buildable}
 use Rattle.phase_sum_meaning.proofs.Roominess.{room-fits}
 
--- two accepted records on n qubits with at most 64 variables, and workspaces with all their places
+-- two accepted records on n qubits with no more variables than a pair may have, and workspaces with all their places
 pub buildable :
     (s t : List ℕ) (n : ℕ) (gs hs : List Gate) (ss cs : List ℕ) →
     read s ≡ accepted n gs →

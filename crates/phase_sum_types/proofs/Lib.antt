@@ -1,8 +1,8 @@
--- Laws behind the code of the phase-sum layer. In order: terms stored in places; merging in any order; words as sets; loops over places;
+-- Laws behind the code of the phase-sum layer. In order: terms stored in places; merging in any order; sets of two words; loops over places;
 -- passes over the terms; sorting; merging terms in order; wires; running gates; accepted records.
 pub mod Storing
 pub mod Merging
-pub mod Words
+pub mod TwoWords
 pub mod Places
 pub mod Passes
 pub mod Sorting

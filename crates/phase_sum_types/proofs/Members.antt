@@ -5,21 +5,19 @@ use Prim.Native.Nat.{ℕ, zero, suc, _/_, _%_, _^_, _<_, _≤_}
 use native.Mathlib.Nat.{pow-succ'}
 use native.Mathlib.Omega.{arith}
 use mathlib.Core.Bool.{Bool, true, false, cond, _&&_}
-use mathlib.Core.Option.{none, some, Option·some-injective, Option·none-ne-some}
+use mathlib.Core.Option.{none, some}
 use mathlib.Core.List.{List, [], _∷_}
 use lib.Arith.{lt-one}
 use lib.Dec.{eqb, ltb}
 use lib.ListN.{length}
-use lib.Count.{ones, onesIn, ones-step, trailingZeros, under}
+use lib.Count.{ones, onesIn, ones-step}
 use borrow.Author.Tests.{eqb-true, eqb-false, ltb-true, ltb-false}
 use Rattle.amplitude.specs.Bits.{digit, bit}
-use Rattle.amplitude.proofs.BitLaws.{digit-eqb, rest-below, bit-zero, bit-above, bit-power-other, bits-ext}
-use Rattle.amplitude.proofs.XorLaws.{xor-falseʳ}
-use Rattle.phase_sum_meaning.specs.Sets.{_△_, single, firstSuch, from, without, Among, here, there}
+use Rattle.amplitude.proofs.BitLaws.{digit-eqb, rest-below, bit-zero, bit-above, bits-ext}
+use Rattle.phase_sum_meaning.specs.Sets.{firstSuch, from, without, Among, here, there}
 use Rattle.phase_sum_meaning.specs.Stepping.{outOf}
 use Rattle.phase_sum_meaning.specs.Room.{mostVariables}
-use Rattle.phase_sum_meaning.proofs.SetLaws.{bit-△}
-use Rattle.phase_sum_meaning.proofs.TakingOut.{outOf-free}
+use Rattle.phase_sum_meaning.proofs.TakingOut.{outOf-free, outOf-other}
 use Rattle.phase_sum_meaning.proofs.VariableLaws.{among-cases, among-from, from-among, from-length}
 use Rattle.phase_sum_types.specs.Workspace.{among, members}
 
@@ -64,15 +62,6 @@ members-hold s v e l = held-among s (among-from 0 mostVariables v (omega arith) 
 pub member-held : (s v : ℕ) → Among v (members s) → (bit v s ≡ true) × (v < mostVariables)
 member-held s v a = let r = among-held s (from 0 mostVariables) a in (r .1, from-among 0 mostVariables (r .0) .1)
 
--- taking a variable out leaves the others
-bit-outOf-other : (u v s : ℕ) → (u ≡ v → ⊥) → bit u (outOf v s) ≡ bit u s
-unfolding outOf
-bit-outOf-other u v s ne = go (bit v s)
-  where
-    go : (b : Bool) → bit u (cond b (s △ single v) s) ≡ bit u s
-    go true = rw (bit-△, bit-power-other u v ne) (xor-falseʳ (bit u s))
-    go false = refl
-
 -- a variable taken out of the set is taken out of what a list has of it
 among-without : (s v : ℕ) (us : List ℕ) → among (outOf v s) us ≡ without v (among s us)
 unfolding among without
@@ -85,8 +74,8 @@ among-without s v (u ∷ us) = go (eqb u v) (bit u s) refl refl (among-without s
         among (outOf v s) (u ∷ us) ≡ without v (among s (u ∷ us))
     go true true e h later = rw (h, e, eqb-true u v e, outOf-free v s) later
     go true false e h later = rw (h, eqb-true u v e, outOf-free v s) later
-    go false true e h later = rw (bit-outOf-other u v s (eqb-false u v e), h, e, later)
-    go false false e h later = rw (bit-outOf-other u v s (eqb-false u v e), h) later
+    go false true e h later = rw (outOf-other u v s (eqb-false u v e), h, e, later)
+    go false false e h later = rw (outOf-other u v s (eqb-false u v e), h) later
 
 -- a variable taken out of the set is taken out of its members
 pub members-without : (s v : ℕ) → members (outOf v s) ≡ without v (members s)
@@ -157,40 +146,6 @@ members-none s l e = bits-ext s 0 (λ q. go q (ltb q mostVariables) (bit q s) re
     go q true true small h = absurd (omega (arith, some-length (members-hold s q h (ltb-true q mostVariables small)), ap length e))
     go q false true small h = bit-above mostVariables q s l (ltb-false q mostVariables small)
     go q a false small h = h
-
--- the lowest variable of the half of a set, one place higher
-lowest-half :
-    (s a k t : ℕ) → firstSuch (λ v. bit v (s / 2)) (from a k) ≡ some t → firstSuch (λ v. bit v s) (from (suc a) k) ≡ some (suc t)
-unfolding firstSuch from bit
-lowest-half s a zero t e = absurd (Option·none-ne-some t e)
-lowest-half s a (suc k) t e = go (bit a (s / 2)) refl (lowest-half s (suc a) k t)
-  where
-    go :
-        (b : Bool) →
-        bit a (s / 2) ≡ b →
-        (firstSuch (λ v. bit v (s / 2)) (from (suc a) k) ≡ some t
-        → firstSuch (λ v. bit v s) (from (suc (suc a)) k) ≡ some (suc t)) →
-        cond (bit a (s / 2)) (some (suc a)) (firstSuch (λ v. bit v s) (from (suc (suc a)) k)) ≡ some (suc t)
-    go true h later = rw (h, Option·some-injective a t (rw h at e))
-    go false h later = rw h (later (rw h at e))
-
--- the lowest variable of a set of k variables that is not empty
-lowest-first : (k s : ℕ) → s < 2 ^ k → (s ≡ 0 → ⊥) → firstSuch (λ v. bit v s) (from 0 k) ≡ some (trailingZeros k s)
-unfolding firstSuch from trailingZeros
-lowest-first zero s l ne = absurd (ne (lt-one l))
-lowest-first (suc k) s l ne = go (bit 0 s) (low-digit s) (lowest-first k (s / 2) (omega (arith, pow-succ' 2 k)))
-  where
-    go :
-        (b : Bool) →
-        digit b ≡ s % 2 →
-        ((s / 2 ≡ 0 → ⊥) → firstSuch (λ v. bit v (s / 2)) (from 0 k) ≡ some (trailingZeros k (s / 2))) →
-        cond b (some 0) (firstSuch (λ v. bit v s) (from 1 k)) ≡ some (under (s % 2) (trailingZeros k (s / 2)))
-    go true e later = rw (← e)
-    go false e later = rw (← e) (lowest-half s 0 k (trailingZeros k (s / 2)) (later (λ h. ne (omega arith))))
-
--- the lowest variable of a set that is not empty
-pub lowest-variable : (s : ℕ) → s < 2 ^ mostVariables → (s ≡ 0 → ⊥) → firstSuch (λ v. bit v s) (from 0 mostVariables) ≡ some (trailingZeros mostVariables s)
-lowest-variable s l ne = lowest-first mostVariables s l ne
 
 -- the empty set holds nothing of a list
 nothing-in : (vs : List ℕ) → firstSuch (λ v. bit v 0) vs ≡ none

@@ -12,6 +12,7 @@ use Rattle.amplitude.specs.Bits.{bit}
 use Rattle.amplitude.proofs.BitLaws.{bit-zero, bit-power, bit-power-other}
 use Rattle.phase_sum_meaning.specs.Sets.{from, single, Among, here, there}
 use Rattle.phase_sum_meaning.proofs.VariableLaws.{from-among}
+use Rattle.phase_sum_meaning.specs.Room.{mostVariables}
 use Rattle.phase_sum_types.specs.Workspace.{among, members}
 
 -- the m + k numbers from a on are the first m and the k behind them
@@ -51,21 +52,21 @@ pub record Window (n v s : ℕ) : Type 0 where
   pub above : (u : ℕ) → v ≤ u → bit u s ≡ false
 
 -- the members of a window
-pub members-window : (n v s : ℕ) → n ≤ v → v ≤ 64 → Window n v s → members s ≡ from n (v - n)
+pub members-window : (n v s : ℕ) → n ≤ v → v ≤ mostVariables → Window n v s → members s ≡ from n (v - n)
 members-window n v s l h w =
-    let parts : 64 ≡ n + ((v - n) + (64 - v)) = omega arith in
+    let parts : mostVariables ≡ n + ((v - n) + (mostVariables - v)) = omega arith in
     let up : n + (v - n) ≡ v = omega arith in
     rw (
       parts,
-      from-split 0 n ((v - n) + (64 - v)),
+      from-split 0 n ((v - n) + (mostVariables - v)),
       zero-add,
-      from-split n (v - n) (64 - v),
+      from-split n (v - n) (mostVariables - v),
       up,
-      among-join s (from 0 n) (from n (v - n) ++ from v (64 - v)),
-      among-join s (from n (v - n)) (from v (64 - v)),
+      among-join s (from 0 n) (from n (v - n) ++ from v (mostVariables - v)),
+      among-join s (from n (v - n)) (from v (mostVariables - v)),
       among-none s (from 0 n) (λ u a. w .below u (omega (arith, from-among 0 n a))),
       among-all s (from n (v - n)) (λ u a. w .inside u (from-among n (v - n) a .0) (omega (arith, from-among n (v - n) a))),
-      among-none s (from v (64 - v)) (λ u a. w .above u (from-among v (64 - v) a .0)),
+      among-none s (from v (mostVariables - v)) (λ u a. w .above u (from-among v (mostVariables - v) a .0)),
     )
     (append-nil (from n (v - n)))
 

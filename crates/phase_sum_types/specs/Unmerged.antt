@@ -53,8 +53,8 @@ sumIn r l =
       live = from (length (l .wires)) (r .next - length (l .wires));
     }
 
--- what running gates asks for: a place a qubit, at most 16 qubits, the gates on these, at most 64 variables in the end, and room for the
--- terms in both workspaces
+-- what running gates asks for: a place a qubit, at most 16 qubits, the gates on these, no more variables in the end than a pair may have,
+-- and room for the terms in both workspaces
 pub record Runnable (r : Run) (gs : List Gate) (l : Lent) : Type 0 where
   pub flips : length (l .flips) ≡ length (l .wires)
   pub few : length (l .wires) ≤ 16
@@ -95,7 +95,8 @@ placesTaken n gs = length (appendGates n gs (initial 0 n) .phase .terms)
 abbrev pub Builds : List Gate → Sum → Lent → Lent → Type 0
 Builds gs r l l′ = Became (build 0 (length (l .wires)) gs) (placesTaken (length (l .wires)) gs) r l l′
 
--- what building asks for: the bytes of two lists on at most 16 qubits, with at most 64 variables together and room for the terms
+-- what building asks for: the bytes of two lists on at most 16 qubits, together with no more variables than a pair may have, and room for
+-- the terms
 pub record Buildable (n : ℕ) (first second ss cs : List ℕ) : Type 0 where
   pub few : n ≤ 16
   pub threes : length first % 3 ≡ 0

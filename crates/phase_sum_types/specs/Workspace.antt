@@ -1,8 +1,8 @@
--- Terms in two lent workspaces: the sets in one, the coefficients in the other, the terms in the first places of both. Document
--- 01, "Building the sum" and "Report, pick, builder".
+-- Terms in two lent workspaces: the sets in one, `wordsEach` words a place, the coefficients in the other, the terms in the first places of
+-- both. Document 01, "Building the sum" and "Report, pick, builder"; document 02, item 6.
 -- Assumes nothing.
 use mathlib.Core.Path.{_≡_}
-use Prim.Native.Nat.{ℕ, _+_, _-_, _≤_}
+use Prim.Native.Nat.{ℕ, _+_, _-_, _*_, _/_, _%_, _≤_}
 use mathlib.Core.Bool.{Bool, cond}
 use mathlib.Core.Option.{Option, none, some}
 use mathlib.Core.List.{List, [], _∷_, _++_, map}
@@ -15,7 +15,8 @@ use Rattle.phase_sum_meaning.specs.Parity.{Parity, of}
 use Rattle.phase_sum_meaning.specs.Phase as phase
 use Rattle.phase_sum_meaning.specs.Phase.{Term, term, rebuild}
 use Rattle.phase_sum_meaning.specs.Building.{PathSum}
-use Rattle.phase_sum_meaning.specs.Room.{mostVariables}
+use Rattle.phase_sum_meaning.specs.Room.{mostVariables, wordsEach}
+use Rattle.phase_sum_words.specs.Words.{wide, setsIn}
 use Rattle.phase_sum_types.specs.declared.Set.{Set}
 use Rattle.phase_sum_types.specs.declared.Phase.{Phase}
 use Rattle.phase_sum_types.specs.declared.Parity.{Parity as ParityWord}
@@ -23,9 +24,29 @@ use Rattle.phase_sum_types.specs.declared.Sum.{Sum}
 use Rattle.phase_sum_types.specs.declared.Found.{Found}
 use Rattle.phase_sum_types.specs.declared.Found.the-variants.{Variable, Nothing}
 
--- the set that a word stands for
-abbrev pub setOf : Set → ℕ
-setOf s = s .word
+-- the words of a set, the low variables first
+abbrev pub wordsOfSet : Set → List ℕ
+wordsOfSet s = s .low ∷ s .high ∷ []
+
+-- the set that they stand for
+unfoldable pub setOf : Set → ℕ
+setOf s = wide (wordsOfSet s)
+
+-- the sets that a slice of words holds, one behind the other
+abbrev pub setsAt : RefT (List ℕ) → List ℕ
+setsAt ws = setsIn wordsEach (now ws)
+
+-- how many sets words have a place for
+abbrev pub placesIn : List ℕ → ℕ
+placesIn ws = length ws / wordsEach
+
+-- no word stands behind the last whole set, so that the sets are all that there is to say of the words (`AnyWidth`, `injective`)
+abbrev pub Whole : List ℕ → Type 0
+Whole ws = length ws % wordsEach ≡ 0
+
+-- whole sets, as many as another list has places
+abbrev pub Level : {A : Type 0} → List ℕ → List A → Type 0
+Level ws xs = length ws ≡ wordsEach * length xs
 
 -- terms by their sets and coefficients
 unfoldable pub zipTerms : List ℕ → List ℕ → List Term
@@ -87,7 +108,8 @@ zipWires [] bs = []
 zipWires (s ∷ ss) [] = []
 zipWires (s ∷ ss) (b ∷ bs) = record { vars = s; flipped = b } ∷ zipWires ss bs
 
--- what the four slices that a sum is lent hold: its wires' sets and constant bits, one place a qubit, and its terms' sets and coefficients
+-- what the four slices that a sum is lent hold: its wires' sets and constant bits, one place a qubit, and its terms' sets and coefficients.
+-- The sets of a slice are those that its words hold
 pub record Lent : Type 0 where
   pub wires : List ℕ
   pub flips : List Bool
@@ -100,7 +122,11 @@ slices ws fs ss cs = record { wires = ws; flips = fs; sets = ss; coeffs = cs }
 
 -- the four by their references
 abbrev pub lent : RefT (List ℕ) → RefT (List Bool) → RefT (List ℕ) → RefT (List ℕ) → Lent
-lent ws fs ss cs = slices (now ws) (now fs) (now ss) (now cs)
+lent ws fs ss cs = slices (setsAt ws) (now fs) (setsAt ss) (now cs)
+
+-- in the four slices each word is one of a set that has its place in the other slice
+abbrev pub Levelled : RefT (List ℕ) → RefT (List Bool) → RefT (List ℕ) → RefT (List ℕ) → Type 0
+Levelled ws fs ss cs = Level (now ws) (now fs) × Level (now ss) (now cs)
 
 -- a reference as a call finds it and as it leaves it
 abbrev Passed : Type 0 → Type 0
@@ -155,7 +181,7 @@ Changed f m s r l l′ = Became (f (sumOf s l)) m r l l′
 abbrev pub TermsChanged : (PathSum → PathSum) → ℕ → Sum → Sum → Passed (List ℕ) → Passed (List ℕ) → Type 0
 TermsChanged f m s r ss cs =
     (ws : List ℕ) (fs : List Bool) →
-    Changed f m s r (slices ws fs (now (ss .entry)) (now (cs .entry))) (slices ws fs (now (ss .exit)) (now (cs .exit)))
+    Changed f m s r (slices ws fs (setsAt (ss .entry)) (now (cs .entry))) (slices ws fs (setsAt (ss .exit)) (now (cs .exit)))
 
 -- what reducing a sum asks of its slices: at most 16 wires, a constant bit for each, and room for the terms and one more for each variable
 -- left

@@ -5,10 +5,17 @@
 // The functions of the layer that have a `requires` ask for variables below the most that a set can hold, for as many places as terms, or, for
 // building, for gates within n, no more variables than a set can hold and places for the room of the gates. Their callers' proofs meet that.
 
-// A set of at most 64 variables: variable v is in it where bit v of the word is 1.
+// A set of variables in two words, the low variables first: variable v is in it where bit v % WORD_BITS of word v / WORD_BITS is 1.
 pub struct Set {
-    pub word: u64,
+    pub low: u64,
+    pub high: u64,
 }
+
+// The variables of a word.
+pub const WORD_BITS: u32 = 64;
+
+// The words of a set.
+pub const WORDS_EACH: usize = 2;
 
 // A parity: of a set of variables, complemented where flipped. A wire of document 01 is one; so is what a pin or a join sets to 0.
 pub struct Parity {

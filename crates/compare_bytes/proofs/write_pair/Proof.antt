@@ -3,7 +3,7 @@
 use mathlib.Core.Path.{_≡_}
 use denote.Ref.{now}
 use borrow.Author.Needs.{needs}
-use Rattle.phase_sum_meaning.specs.Room.{places}
+use Rattle.phase_sum_meaning.specs.Room.{places, setWords}
 use Rattle.comparison_types.specs.Call.{saidOf, comparison}
 use Rattle.compare_bytes.proofs.Laws.{written-is}
 use Rattle.compare_bytes.proofs.write_pair.Statement.{statement}
@@ -29,7 +29,7 @@ returns c =
     let at-follow = c .before .before in
     let at-compare = at-follow .before .before .before in
     let a = at-compare .before .before .before .before .before .args in
-    let said : saidOf (at-compare .compare .result) ≡ comparison (now (a .first)) (now (a .second)) places places = at-compare .compare .ensures .0 in
+    let said : saidOf (at-compare .compare .result) ≡ comparison (now (a .first)) (now (a .second)) setWords places = at-compare .compare .ensures .0 in
     rw (at-follow .bytes-follow .ensures, said, written-is (now (a .first)) (now (a .second))) at (c .write-answer .ensures)
 
 pub write-pair-spec : {M : Type 1} → statement M

@@ -3,18 +3,18 @@
 use Prim.Native.Nat.{_<_, _≤_}
 use native.Mathlib.Omega.{arith}
 use borrow.Author.Tests.{lt-ltb, le-ltb}
-use Rattle.phase_sum_meaning.specs.Room.{places}
+use Rattle.phase_sum_meaning.specs.Room.{setWords}
 use Rattle.comparison_checking.proofs.workspace_short.Statement.{statement}
 use Rattle.comparison_checking.proofs.workspace_short.Tie as tie
 
 returns : tie.Need-returns
 returns c =
-    let short : c .before .args .words < places = omega arith in
+    let short : c .before .args .words < setWords = omega arith in
     rw (lt-ltb _ _ short)
 
 returns-2 : tie.Need-returns-2
 returns-2 c =
-    let enough : places ≤ c .before .args .words = omega arith in
+    let enough : setWords ≤ c .before .args .words = omega arith in
     rw (le-ltb _ _ enough)
 
 pub workspace-short-spec : {M : Type 1} → statement M

@@ -6,6 +6,7 @@ use lib.ListN.{length}
 use lib.Dec.{eqb}
 use mathlib.Core.List.{[]}
 use Rattle.phase_sum_types.specs.Workspace.{setOf, slices, members}
+use Rattle.phase_sum_types.proofs.TwoWords.{pair-below}
 use Rattle.comparison_meaning.specs.Verdict.{judge, searched}
 use Rattle.comparison_types.proofs.VerdictLaws.{members-empty}
 use borrow.Author.Needs.{needs}
@@ -32,9 +33,10 @@ none-left :
     (c : tie.After-is-empty) →
     eqb (length (members (setOf (c .before .before .before .before .before .before .before .args .end .sum .live)))) 0
     ≡ c .is-empty .result
+unfolding setOf
 none-left c =
-    members-empty (setOf (c .before .before .before .before .before .before .before .args .end .sum .live)) (omega arith)
-    ∙ sym (c .is-empty .ensures)
+    let live = c .before .before .before .before .before .before .before .args .end .sum .live in
+    members-empty (setOf live) (pair-below (live .low) (live .high) (omega arith) (omega arith)) ∙ sym (c .is-empty .ensures)
 
 searched-requires : tie.Need-searched-requires
 searched-requires c κs = search needs

@@ -7,7 +7,7 @@ use mathlib.Core.List.{List, []}
 use Prim.Native.Nat.{ℕ}
 use native.Mathlib.Omega.{arith}
 use denote.Ref.{now}
-use Rattle.phase_sum_types.specs.Workspace.{slices}
+use Rattle.phase_sum_types.specs.Workspace.{setsAt, slices}
 use Rattle.phase_sum_types.specs.declared.Parity.{Parity as ParityWord}
 use Rattle.comparison_meaning.specs.Reduction.{End}
 use Rattle.comparison_types.specs.Inner.{endOf, unblocked}
@@ -19,7 +19,7 @@ use Rattle.comparison_judging.proofs.searched.Tie as tie
 -- the end that the arguments stand for
 abbrev ended : tie.Start → List ℕ → List Bool → ParityWord → End
 ended c ws fs by =
-    endOf (unblocked by (c .args .sum) (c .args .counts)) (slices ws fs (now (c .args .sets)) (now (c .args .coeffs)))
+    endOf (unblocked by (c .args .sum) (c .args .counts)) (slices ws fs (setsAt (c .args .sets)) (now (c .args .coeffs)))
 
 outcome-requires : tie.Need-outcome-requires
 outcome-requires c κs = search needs

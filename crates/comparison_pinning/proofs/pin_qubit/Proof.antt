@@ -5,6 +5,7 @@ use mathlib.Core.Option.{some}
 use native.Mathlib.Omega.{arith}
 use Rattle.phase_sum_meaning.specs.Sets.{firstIn}
 use Rattle.phase_sum_types.specs.Workspace.{setOf, members, foundOf}
+use Rattle.phase_sum_types.proofs.TwoWords.{words-long}
 use Rattle.phase_sum_types.proofs.Changing.{sized-stands}
 use Rattle.comparison_types.proofs.PinLaws.{found-below, pinned-found, pinned-free}
 use borrow.Author.Needs.{needs}
@@ -33,7 +34,7 @@ found-first : (c : tie.After-z) →
 found-first c = sym (c .before .before .lowest-in .ensures) ∙ ap foundOf (c .z .given .1)
 
 mismatch-requires : tie.Need-mismatch-requires
-mismatch-requires c κs = let pre = to-start c .pre in (omega (arith, pre .0, pre .2 .few), pre .0, omega (arith, pre .0, pre .2 .flips))
+mismatch-requires c κs = let pre = to-start c .pre in (omega (arith, pre .0, pre .2 .few, pre .2 .flips), omega (arith, pre .0, pre .3 .0), pre .0)
 
 lowest-in-requires : tie.Need-lowest-in-requires
 lowest-in-requires c κs = search needs
@@ -46,11 +47,14 @@ rest-of-requires c κs = found-below _ _ _ (found-first (c .before))
 
 replace-requires : tie.Need-replace-requires
 replace-requires c κs =
-    let at-z = to-rest c .before .before in (found-below _ _ _ (found-first at-z), sized-stands (to-start (to-mismatch at-z .before) .pre .2))
+    let at-z = to-rest c .before .before in
+    let pre = to-start (to-mismatch at-z .before) .pre in
+    (found-below _ _ _ (found-first at-z), sized-stands (pre .2), pre .3)
 
 add-pin-requires : tie.Need-add-pin-requires
 add-pin-requires c κs =
-    let pre = to-start (to-mismatch (to-rest (to-replace c .before) .before .before) .before) .pre in omega (arith, pre .0, pre .1, pre .2 .few)
+    let pre = to-start (to-mismatch (to-rest (to-replace c .before) .before .before) .before) .pre in
+    omega (arith, pre .0, pre .1, pre .2 .few, pre .2 .flips)
 
 enum-told : tie.Need-enum-told
 enum-told c = search needs
@@ -77,9 +81,9 @@ returns c =
     let at-z = at-rest .before .before in
     let pre = to-start (to-mismatch at-z .before) .pre in
     let kept = at-replace .replace .kept .1 .1 .1 in
-    pinned-found _ _ _ (at-rest .rest-of .result) _ _ _ _ (pre .0) (pre .1) (pre .2) (to-mismatch at-z .mismatch .ensures) (found-first at-z)
-    (at-rest .rest-of .ensures) (at-replace .replace .ensures)
-    (record { wires = kept .0; flips = kept .1 .0; sets = kept .1 .1 .0; coeffs = kept .1 .1 .1 .0 }) (c .add-pin .ensures)
+    pinned-found _ _ _ (at-rest .rest-of .result) _ _ _ _ (omega (arith, pre .0, pre .2 .flips)) (pre .1) (pre .2)
+    (to-mismatch at-z .mismatch .ensures) (found-first at-z) (at-rest .rest-of .ensures) (at-replace .replace .ensures)
+    (words-long _ _ _ _ (kept .0) (kept .1 .0) (kept .1 .1 .0) (kept .1 .1 .1 .0)) (c .add-pin .ensures)
 
 same-length-5 : tie.Need-same-length-5
 same-length-5 c = search needs

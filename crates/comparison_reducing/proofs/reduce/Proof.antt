@@ -1,11 +1,13 @@
--- `comparison_reducing::reduce` meets its contract. The loop's invariant: what the definition gives from the start it gives from here with the steps that are left. The measure is how many are left.
+-- `comparison_reducing::reduce` meets its contract. The loop's invariant: what the definition gives from the start it gives from here with the steps that are left; and the words are level. The measure is how many are left.
 -- Assumes nothing.
 use mathlib.Core.Path.{_≡_, sym, ap, _∙_}
 use mathlib.Core.Option.{some}
 use native.Mathlib.Omega.{arith}
 use lib.ListN.{length}
+use denote.Ref.{now}
 use borrow.Author.Needs.{needs}
-use Rattle.phase_sum_types.specs.Workspace.{Lent, setOf, members, lent, slices, foundOf}
+use Rattle.phase_sum_types.specs.Workspace.{Lent, Level, setOf, members, lent, foundOf}
+use Rattle.phase_sum_types.proofs.TwoWords.{byWords, words-long}
 use Rattle.phase_sum_types.proofs.Changing.{sized-stands}
 use Rattle.phase_sum_types.proofs.Running.{AsLong, long-after}
 use Rattle.comparison_types.proofs.StepCases.{readyIn, ready-member, Going, going-starts, going-from, going-back, going-few, going-spent, going-idle, going-on, going-blocked}
@@ -14,7 +16,8 @@ use Rattle.comparison_reducing.proofs.reduce.Tie as tie
 
 abbrev Inv-loop : tie.InvT-loop
 Inv-loop ws₀ fs₀ sets₀ coeffs₀ end₀ left₀ ws fs sets coeffs end left =
-    Going (end₀ .sum) (end₀ .counts) (slices ws₀ fs₀ sets₀ coeffs₀) left₀ end (slices ws fs sets coeffs) left
+    Going (end₀ .sum) (end₀ .counts) (byWords ws₀ fs₀ sets₀ coeffs₀) left₀ end (byWords ws fs sets coeffs) left
+    × (Level ws fs × Level sets coeffs)
 
 abbrev μ-loop : tie.MeasureT-loop
 μ-loop ws₀ fs₀ sets₀ coeffs₀ end₀ left₀ ws fs sets coeffs end left = left
@@ -22,6 +25,10 @@ abbrev μ-loop : tie.MeasureT-loop
 -- from before the loop to the function's entry
 abbrev to-start : tie.After-count Inv-loop μ-loop → tie.Start Inv-loop μ-loop
 to-start c = c .before .before .before .before .before .before
+
+-- the function's entry, from the loop's head
+abbrev entry : tie.At-loop Inv-loop μ-loop → tie.Start Inv-loop μ-loop
+entry c = to-start (c .before)
 
 -- from before the call of `ready` to the loop's test
 abbrev ready-to-test : tie.After-ready-arg2 Inv-loop μ-loop → tie.In-loop Inv-loop μ-loop
@@ -45,19 +52,19 @@ to-step c = c .before .before .before .before .before .before .before .before
 
 -- the slices at the function's entry, at the loop's head and behind the call of `step`
 abbrev lent-start : tie.At-loop Inv-loop μ-loop → Lent
-lent-start c = let a = to-start (c .before) .args in lent (a .ws) (a .fs) (a .sets) (a .coeffs)
+lent-start c = let a = entry c .args in lent (a .ws) (a .fs) (a .sets) (a .coeffs)
 
 abbrev lent-loop : tie.At-loop Inv-loop μ-loop → Lent
-lent-loop c = let p = c .loop in slices (p .ws) (p .fs) (p .sets) (p .coeffs)
+lent-loop c = let p = c .loop in byWords (p .ws) (p .fs) (p .sets) (p .coeffs)
 
 abbrev lent-step : tie.After-step Inv-loop μ-loop → Lent
-lent-step c = let l = c .step .last .1 .1 .1 in slices (l .0) (l .1 .0) (l .1 .1 .0) (l .1 .1 .1 .0)
+lent-step c = let l = c .step .last .1 .1 .1 in byWords (l .0) (l .1 .0) (l .1 .1 .0) (l .1 .1 .1 .0)
 
 -- at the loop's head the reduction of the start's sum goes on
 going : (c : tie.At-loop Inv-loop μ-loop) →
-    let a = to-start (c .before) .args in
+    let a = entry c .args in
     Going (a .sum) (a .counts) (lent-start c) (length (members (setOf (a .sum .live)))) (c .loop .end) (lent-loop c) (c .loop .left)
-going c = going-from (c .before .before .goes .result) (c .before .before .goes .ensures) (c .before .count .ensures) (c .loop .inv)
+going c = going-from (c .before .before .goes .result) (c .before .before .goes .ensures) (c .before .count .ensures) (c .loop .inv .0)
 
 -- the variable that `ready` found is ready
 found-ready : (c : tie.After-step-arg4 Inv-loop μ-loop) →
@@ -67,11 +74,27 @@ found-ready c = sym (to-found c .before .before .ready .ensures) ∙ ap foundOf 
 -- the step leaves the slices as long as it found them
 step-long : (c : tie.After-step Inv-loop μ-loop) → AsLong (lent-loop (to-test (c .before) .before)) (lent-step c)
 step-long c =
-    let kept = c .step .kept .1 .1 .1 in record { wires = kept .0; flips = kept .1 .0; sets = kept .1 .1 .0; coeffs = kept .1 .1 .1 .0 }
+    let kept = c .step .kept .1 .1 .1 in words-long _ _ _ _ (kept .0) (kept .1 .0) (kept .1 .1 .0) (kept .1 .1 .1 .0)
+
+-- and level
+step-level : (c : tie.After-step Inv-loop μ-loop) →
+    let l = c .step .last .1 .1 .1 in Level (l .0) (l .1 .0) × Level (l .1 .1 .0) (l .1 .1 .1 .0)
+step-level c =
+    let kept = c .step .kept .1 .1 .1 in
+    let level = to-test (c .before) .before .loop .inv .1 in
+    (omega (arith, level .0, kept .0, kept .1 .0), omega (arith, level .1, kept .1 .1 .0, kept .1 .1 .1 .0))
 
 -- so they are as long as at the start
 stays-long : (c : tie.After-step Inv-loop μ-loop) → AsLong (lent-start (to-test (c .before) .before)) (lent-step c)
-stays-long c = long-after (to-test (c .before) .before .loop .inv .long) (step-long c)
+stays-long c = long-after (to-test (c .before) .before .loop .inv .0 .long) (step-long c)
+
+-- at the loop's head there are as many words as at the start
+same-words : (c : tie.At-loop Inv-loop μ-loop) →
+    let a = entry c .args in (length (c .loop .ws) ≡ length (now (a .ws))) × (length (c .loop .sets) ≡ length (now (a .sets)))
+same-words c =
+    let inv = c .loop .inv in
+    let level = entry c .pre .2 in
+    (omega (arith, inv .1 .0, inv .0 .long .flips, level .0), omega (arith, inv .1 .1, inv .0 .long .coeffs, level .1))
 
 goes-requires : tie.Need-goes-requires Inv-loop μ-loop
 goes-requires c κs = search needs
@@ -82,10 +105,16 @@ count-requires c κs = search needs
 loop-holds : tie.Need-loop-holds Inv-loop μ-loop
 loop-holds c =
     let start = to-start c in
-    going-starts (start .args .sum) (start .args .counts) (c .before .goes .result) (c .before .goes .ensures) (c .count .ensures) (start .pre .0) (start .pre .1)
+    let begins =
+    going-starts (start .args .sum) (start .args .counts) (c .before .goes .result) (c .before .goes .ensures) (c .count .ensures)
+    (start .pre .0) (start .pre .1)
+    in
+    (begins, start .pre .2)
 
 ready-requires : tie.Need-ready-requires Inv-loop μ-loop
-ready-requires c κs = let stands = sized-stands (ready-to-test c .before .loop .inv .sized) in (stands .sets, stands .coeffs)
+ready-requires c κs =
+    let inv = ready-to-test c .before .loop .inv in
+    let stands = sized-stands (inv .0 .sized) in (omega (arith, stands .coeffs, inv .1 .1), stands .coeffs)
 
 enum-known-y : tie.Need-enum-known-y Inv-loop μ-loop
 enum-known-y c = search needs
@@ -94,16 +123,16 @@ enum-told : tie.Need-enum-told Inv-loop μ-loop
 enum-told c = search needs
 
 same-length : tie.Need-same-length Inv-loop μ-loop
-same-length c = none-to-loop c .loop .inv .long .wires
+same-length c = same-words (none-to-loop c) .0
 
 same-length-2 : tie.Need-same-length-2 Inv-loop μ-loop
-same-length-2 c = none-to-loop c .loop .inv .long .flips
+same-length-2 c = none-to-loop c .loop .inv .0 .long .flips
 
 same-length-3 : tie.Need-same-length-3 Inv-loop μ-loop
-same-length-3 c = none-to-loop c .loop .inv .long .sets
+same-length-3 c = same-words (none-to-loop c) .1
 
 same-length-4 : tie.Need-same-length-4 Inv-loop μ-loop
-same-length-4 c = none-to-loop c .loop .inv .long .coeffs
+same-length-4 c = none-to-loop c .loop .inv .0 .long .coeffs
 
 returns : tie.Need-returns Inv-loop μ-loop
 returns c = going-idle _ _ _ _ _ _ (going (none-to-loop c)) (sym (c .before .before .ready .ensures) ∙ ap foundOf (c .enum-told .given .1))
@@ -111,16 +140,20 @@ returns c = going-idle _ _ _ _ _ _ (going (none-to-loop c)) (sym (c .before .bef
 step-requires : tie.Need-step-requires Inv-loop μ-loop
 step-requires c κs =
     let inv = to-test c .before .loop .inv in
-    let member = ready-member _ _ _ (found-ready c) in (member .0, member .1, going-few inv, inv .sized)
+    let member = ready-member _ _ _ (found-ready c) in (member .0, member .1, going-few (inv .0), inv .0 .sized, inv .1)
 
 same-length-5 : tie.Need-same-length-5 Inv-loop μ-loop
-same-length-5 c = stays-long (to-step (c .before)) .wires
+same-length-5 c =
+    let stepped = to-step (c .before) in
+    omega (arith, step-level stepped .0, stays-long stepped .flips, entry (to-test (stepped .before) .before) .pre .2 .0)
 
 same-length-6 : tie.Need-same-length-6 Inv-loop μ-loop
 same-length-6 c = stays-long (to-step (c .before)) .flips
 
 same-length-7 : tie.Need-same-length-7 Inv-loop μ-loop
-same-length-7 c = stays-long (to-step (c .before)) .sets
+same-length-7 c =
+    let stepped = to-step (c .before) in
+    omega (arith, step-level stepped .1, stays-long stepped .coeffs, entry (to-test (stepped .before) .before) .pre .2 .1)
 
 same-length-8 : tie.Need-same-length-8 Inv-loop μ-loop
 same-length-8 c = stays-long (to-step (c .before)) .coeffs
@@ -145,21 +178,23 @@ loop-again c =
     let test = to-test (stepped .before) in
     let to = stepped .step .ensures in
     let at-count = test .before .before in
-    going-back (at-count .before .goes .result) (at-count .before .goes .ensures) (at-count .count .ensures)
-    (going-on _ _ _ _ _ _ (going (test .before)) _ _ _ (test .loop-test .taken) (found-ready (stepped .before)) (to .next)
-    (to .sized) (c .if1 .left) (step-long stepped))
+    let further =
+    going-on _ _ _ _ _ _ (going (test .before)) _ _ _ (test .loop-test .taken) (found-ready (stepped .before)) (to .next)
+    (to .sized) (c .if1 .left) (step-long stepped)
+    in
+    (going-back (at-count .before .goes .result) (at-count .before .goes .ensures) (at-count .count .ensures) further, step-level stepped)
 
 same-length-9 : tie.Need-same-length-9 Inv-loop μ-loop
-same-length-9 c = c .before .loop .inv .long .wires
+same-length-9 c = same-words (c .before) .0
 
 same-length-10 : tie.Need-same-length-10 Inv-loop μ-loop
-same-length-10 c = c .before .loop .inv .long .flips
+same-length-10 c = c .before .loop .inv .0 .long .flips
 
 same-length-11 : tie.Need-same-length-11 Inv-loop μ-loop
-same-length-11 c = c .before .loop .inv .long .sets
+same-length-11 c = same-words (c .before) .1
 
 same-length-12 : tie.Need-same-length-12 Inv-loop μ-loop
-same-length-12 c = c .before .loop .inv .long .coeffs
+same-length-12 c = c .before .loop .inv .0 .long .coeffs
 
 returns-3 : tie.Need-returns-3 Inv-loop μ-loop
 returns-3 c = going-spent _ _ _ _ _ _ (going (c .before)) (c .loop-test .left)

@@ -1,6 +1,7 @@
 -- `comparison_reducing::step` meets its contract: where the search finds a variable of L, the step is at it; where not, it is blocked, or none is asked for.
 -- Assumes nothing.
 use mathlib.Core.Path.{_≡_, refl, sym, ap, _∙_}
+use native.Mathlib.Omega.{arith}
 use mathlib.Core.Bool.{true, false, true≢false}
 use Rattle.phase_sum_meaning.specs.Sets.{firstIn}
 use Rattle.phase_sum_meaning.specs.Building.{PathSum}
@@ -60,7 +61,9 @@ steps-at : {y z k u s n e l l′ : _} →
 steps-at to is = record { next = rw (to .free) (to .next ∙ is); stays = λ b. absurd (true≢false (sym b ∙ to .free)); sized = to .sized }
 
 halves-of-requires : tie.Need-halves-of-requires
-halves-of-requires c κs = let stands = sized-stands (to-start c .pre .3) in (to-start c .pre .1, stands .sets, stands .coeffs)
+halves-of-requires c κs =
+    let pre = to-start c .pre in
+    let stands = sized-stands (pre .3) in (pre .1, omega (arith, stands .coeffs, pre .4 .1), stands .coeffs)
 
 without-requires : tie.Need-without-requires
 without-requires c κs = search needs
@@ -76,7 +79,7 @@ step-at-requires c κs =
     let found = to-found c in
     let at-search = found .before .before in
     let pre = start at-search .pre in
-    (pre .0, pre .1, found-below _ _ _ (sym (at-search .lowest-in .ensures) ∙ ap foundOf (found .z .given .1)), pre .2, pre .3)
+    (pre .0, pre .1, found-below _ _ _ (sym (at-search .lowest-in .ensures) ∙ ap foundOf (found .z .given .1)), pre .2, pre .3, pre .4)
 
 enum-told : tie.Need-enum-told
 enum-told c = search needs
@@ -103,7 +106,7 @@ returns c =
     record { next = rw (c .constraint-of .ensures) is; stays = λ b. (refl, refl, refl); sized = start at-search .pre .3 }
 
 step-at-requires-2 : tie.Need-step-at-requires-2
-step-at-requires-2 c κs = let pre = start (to-search (to-free c .before)) .pre in (pre .0, pre .1, pre .1, pre .2, pre .3)
+step-at-requires-2 c κs = let pre = start (to-search (to-free c .before)) .pre in (pre .0, pre .1, pre .1, pre .2, pre .3, pre .4)
 
 same-length-3 : tie.Need-same-length-3
 same-length-3 c = search needs

@@ -5,7 +5,8 @@ use Prim.Native.Nat.{_≤_}
 use native.Mathlib.Nat.{le-trans}
 use native.Mathlib.Omega.{arith}
 use denote.Ref.{now}
-use Rattle.phase_sum_types.specs.Workspace.{sumOf, Sized, Became}
+use Rattle.phase_sum_types.specs.Workspace.{setsAt, sumOf, Sized, Became}
+use Rattle.phase_sum_types.proofs.TwoWords.{words-long}
 use Rattle.phase_sum_types.proofs.Members.{members-hold}
 use Rattle.phase_sum_types.proofs.Changing.{roomIn, place-left, room-replace, room-takeOut, room-turned, sized-stands, still-sized}
 use Rattle.phase_sum_types.proofs.Running.{AsLong}
@@ -62,7 +63,7 @@ goes-to sized went became counted room long is =
 turn-out-requires : tie.Need-turn-out-requires
 turn-out-requires c κs =
     let start = to-start (to-turn c .before) in
-    let left = place-left _ _ (start .pre .4) (start .pre .0) (start .pre .1) in (start .pre .1, left .0, left .1)
+    let left = place-left _ _ (start .pre .4) (start .pre .0) (start .pre .1) in (start .pre .1, start .pre .5 .1, left .1)
 
 add-turn-requires : tie.Need-add-turn-requires
 add-turn-requires c κs = omega (arith, to-start (to-turn (to-turn-out c .before) .before) .pre .3 .turns)
@@ -82,9 +83,9 @@ returns c =
     let at-if1 = to-turn (at-turn-out .before) in
     let start = to-start (at-if1 .before) in
     let kept = at-turn-out .turn-out .kept .1 .1 .1 .1 in
-    goes-to (start .pre .4) (c .goes .ensures) (at-turn-out .turn-out .ensures (now (start .args .ws)) (now (start .args .fs)))
+    goes-to (start .pre .4) (c .goes .ensures) (at-turn-out .turn-out .ensures (setsAt (start .args .ws)) (now (start .args .fs)))
     (c .before .add-turn .ensures) (room-turned _ _ _ _ (members-hold _ _ (start .pre .0) (start .pre .1)))
-    (record { wires = refl; flips = refl; sets = kept .0; coeffs = kept .1 .0 })
+    (words-long _ _ _ _ refl refl (kept .0) (kept .1 .0))
     (turn-to _ _ _ _ _ _ (kind-turn _ _ (at-if1 .if1 .taken)))
 
 constrains-requires : tie.Need-constrains-requires
@@ -98,7 +99,7 @@ rest-of-requires c κs = even-start (c .before .before) .pre .2
 
 join-out-requires : tie.Need-join-out-requires
 join-out-requires c κs =
-    let pre = even-start (to-rest c .before .before .before) .pre in (pre .1, pre .2, sized-stands (pre .4))
+    let pre = even-start (to-rest c .before .before .before) .pre in (pre .1, pre .2, sized-stands (pre .4), pre .5)
 
 add-join-requires : tie.Need-add-join-requires
 add-join-requires c κs = omega (arith, even-start (to-rest (to-join-out c .before) .before .before .before) .pre .3 .joins)
@@ -128,13 +129,13 @@ returns-2 c =
     let kind = at-if2 .before .constrains .ensures .0 (at-if2 .if2 .taken) in
     goes-to (start .pre .4) (c .goes2 .ensures) (at-join-out .join-out .ensures) (c .before .add-join .ensures)
     (le-trans (room-replace _ _ _) (room-takeOut _ _))
-    (record { wires = kept .0; flips = kept .1 .0; sets = kept .1 .1 .0; coeffs = kept .1 .1 .1 .0 })
+    (words-long _ _ _ _ (kept .0) (kept .1 .0) (kept .1 .1 .0) (kept .1 .1 .1 .0))
     (rw (at-rest .rest-of .ensures, at-rest .before .constraint-of .ensures) (join-to _ _ _ _ _ _ kind))
 
 take-out-requires : tie.Need-take-out-requires
 take-out-requires c κs =
     let pre = even-start (to-sum c .before) .pre in
-    let stands = sized-stands (pre .4) in (pre .1, stands .sets, stands .coeffs)
+    (pre .1, pre .5 .1, sized-stands (pre .4) .coeffs)
 
 add-sum-requires : tie.Need-add-sum-requires
 add-sum-requires c κs = omega (arith, even-start (to-sum (to-take-out c .before) .before) .pre .3 .sums)
@@ -155,8 +156,8 @@ returns-3 c =
     let start = even-start (at-if2 .before) in
     let kept = at-take-out .take-out .kept .1 .1 in
     let kind = kind-rest _ _ (at-if2 .before .before .if1 .left) (at-if2 .before .constrains .ensures .1 (at-if2 .if2 .left)) in
-    goes-to (start .pre .4) (c .goes3 .ensures) (at-take-out .take-out .ensures (now (start .args .ws)) (now (start .args .fs)))
-    (c .before .add-sum .ensures) (room-takeOut _ _) (record { wires = refl; flips = refl; sets = kept .0; coeffs = kept .1 .0 })
+    goes-to (start .pre .4) (c .goes3 .ensures) (at-take-out .take-out .ensures (setsAt (start .args .ws)) (now (start .args .fs)))
+    (c .before .add-sum .ensures) (room-takeOut _ _) (words-long _ _ _ _ refl refl (kept .0) (kept .1 .0))
     (sum-to _ _ _ _ _ _ kind)
 
 pub step-at-spec : {M : Type 1} → statement M

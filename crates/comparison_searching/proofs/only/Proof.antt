@@ -2,7 +2,7 @@
 -- Assumes nothing.
 use native.Mathlib.Omega.{arith}
 use borrow.Author.Needs.{needs}
-use Rattle.phase_sum_types.proofs.Words.{shifted-one}
+use Rattle.phase_sum_words.proofs.Word.{shifted-one}
 use Rattle.comparison_searching.proofs.only.Statement.{statement}
 use Rattle.comparison_searching.proofs.only.Tie as tie
 

@@ -7,13 +7,15 @@ use native.Mathlib.Omega.{arith}
 use mathlib.Core.Option.{none}
 use lib.Pow.{pow-pos}
 use borrow.Author.Needs.{needs}
+use Rattle.phase_sum_meaning.specs.Room.{wordsEach}
+use Rattle.phase_sum_words.specs.Words.{setsIn}
 use Rattle.phase_sum_types.specs.Workspace.{phaseOf}
 use Rattle.comparison_types.proofs.SearchLaws.{firstBeside, beside-start, pass-itself, pass-more, found-itself, found-more, answer-none, answer-found}
 use Rattle.comparison_searching.proofs.weight_one.Statement.{statement}
 use Rattle.comparison_searching.proofs.weight_one.Tie as tie
 
 abbrev Inv-loop : tie.InvT-loop
-Inv-loop sets coeffs phase n i₀ i = (i ≤ n) × (firstBeside (phaseOf phase sets coeffs) 0 1 i ≡ none)
+Inv-loop sets coeffs phase n i₀ i = (i ≤ n) × (firstBeside (phaseOf phase (setsIn wordsEach sets) coeffs) 0 1 i ≡ none)
 
 abbrev μ-loop : tie.MeasureT-loop
 μ-loop sets coeffs phase n i₀ i = n - i

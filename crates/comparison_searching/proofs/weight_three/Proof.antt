@@ -9,6 +9,8 @@ use native.Mathlib.Omega.{arith}
 use mathlib.Core.Option.{none}
 use lib.Pow.{pow-pos}
 use borrow.Author.Needs.{needs}
+use Rattle.phase_sum_meaning.specs.Room.{wordsEach}
+use Rattle.phase_sum_words.specs.Words.{setsIn}
 use Rattle.phase_sum_types.specs.Workspace.{setOf, phaseOf}
 use Rattle.comparison_types.proofs.SearchLaws.{power-small, firstBeside, beside-start, pass-itself, pass-more, found-itself, found-more, answer-none, answer-found}
 use Rattle.comparison_types.proofs.TripleLaws.{Shows, shows-three}
@@ -19,22 +21,22 @@ abbrev Inv-loop2 : tie.InvT-loop2
 Inv-loop2 sets coeffs phase mask n found₀ i high j pair both k₀ found k =
     (found ≡ 0)
     × (k ≤ j)
-    × (firstBeside (phaseOf phase sets coeffs) pair 1 k ≡ none)
-    × Shows (phaseOf phase sets coeffs) pair j (setOf both)
+    × (firstBeside (phaseOf phase (setsIn wordsEach sets) coeffs) pair 1 k ≡ none)
+    × Shows (phaseOf phase (setsIn wordsEach sets) coeffs) pair j (setOf both)
 
 abbrev μ-loop2 : tie.MeasureT-loop2
 μ-loop2 sets coeffs phase mask n found₀ i high j pair both k₀ found k = j - k
 
 abbrev Inv-loop : tie.InvT-loop
 Inv-loop sets coeffs phase mask n found₀ i high j₀ found j =
-    (found ≡ 0) × (j ≤ i) × (firstBeside (phaseOf phase sets coeffs) high 2 j ≡ none)
+    (found ≡ 0) × (j ≤ i) × (firstBeside (phaseOf phase (setsIn wordsEach sets) coeffs) high 2 j ≡ none)
 
 abbrev μ-loop : tie.MeasureT-loop
 μ-loop sets coeffs phase mask n found₀ i high j₀ found j = i - j
 
 abbrev Inv-search : tie.InvT-search
 Inv-search sets coeffs phase mask n found₀ i₀ found i =
-    (found ≡ 0) × (i ≤ n) × (firstBeside (phaseOf phase sets coeffs) 0 3 i ≡ none)
+    (found ≡ 0) × (i ≤ n) × (firstBeside (phaseOf phase (setsIn wordsEach sets) coeffs) 0 3 i ≡ none)
 
 abbrev μ-search : tie.MeasureT-search
 μ-search sets coeffs phase mask n found₀ i₀ found i = n - i

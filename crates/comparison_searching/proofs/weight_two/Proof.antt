@@ -7,19 +7,21 @@ use native.Mathlib.Omega.{arith}
 use mathlib.Core.Option.{none}
 use lib.Pow.{pow-pos}
 use borrow.Author.Needs.{needs}
+use Rattle.phase_sum_meaning.specs.Room.{wordsEach}
+use Rattle.phase_sum_words.specs.Words.{setsIn}
 use Rattle.phase_sum_types.specs.Workspace.{phaseOf}
 use Rattle.comparison_types.proofs.SearchLaws.{power-small, firstBeside, beside-start, pass-itself, pass-more, found-itself, found-more, answer-none, answer-found}
 use Rattle.comparison_searching.proofs.weight_two.Statement.{statement}
 use Rattle.comparison_searching.proofs.weight_two.Tie as tie
 
 abbrev Inv-loop2 : tie.InvT-loop2
-Inv-loop2 sets coeffs phase n i high j₀ j = (j ≤ i) × (firstBeside (phaseOf phase sets coeffs) high 1 j ≡ none)
+Inv-loop2 sets coeffs phase n i high j₀ j = (j ≤ i) × (firstBeside (phaseOf phase (setsIn wordsEach sets) coeffs) high 1 j ≡ none)
 
 abbrev μ-loop2 : tie.MeasureT-loop2
 μ-loop2 sets coeffs phase n i high j₀ j = i - j
 
 abbrev Inv-loop : tie.InvT-loop
-Inv-loop sets coeffs phase n i₀ i = (i ≤ n) × (firstBeside (phaseOf phase sets coeffs) 0 2 i ≡ none)
+Inv-loop sets coeffs phase n i₀ i = (i ≤ n) × (firstBeside (phaseOf phase (setsIn wordsEach sets) coeffs) 0 2 i ≡ none)
 
 abbrev μ-loop : tie.MeasureT-loop
 μ-loop sets coeffs phase n i₀ i = n - i

@@ -1,4 +1,5 @@
--- `phase_sum_building::backwards` meets its contract. The loop's invariant: the gates before place i, backwards and inverted, are still to run.
+-- `phase_sum_building::backwards` meets its contract. The loop's invariant: the gates before place i, backwards and inverted,
+-- are still to run, and the words are level.
 -- Assumes nothing.
 use mathlib.Core.Path.{_≡_, refl, sym, _∙_}
 use mathlib.Core.Bool.{true}
@@ -12,8 +13,9 @@ use Rattle.record_format.specs.Gate.{Gate, raw, gateOf, inverseList}
 use Rattle.record_format.specs.Reading.{raws, gatesIn}
 use Rattle.record_format.proofs.Parts.{gateAt, inverseAt, inverse-before}
 use Rattle.phase_sum_types.specs.declared.Run.{Run}
-use Rattle.phase_sum_types.specs.Workspace.{Lent, slices}
+use Rattle.phase_sum_types.specs.Workspace.{Lent, Level}
 use Rattle.phase_sum_types.specs.Unmerged.{appendGates, sumIn, movesOnly, Runnable, Runs}
+use Rattle.phase_sum_types.proofs.TwoWords.{byWords, words-long}
 use Rattle.phase_sum_types.proofs.Running.{AsLong, ToRun, none-run, one-run, all-run, first-fit, moves-leaves, inverse-moves, inverse-stays}
 use Rattle.phase_sum_building.proofs.backwards.Statement.{statement}
 use Rattle.phase_sum_building.proofs.backwards.Tie as tie
@@ -50,10 +52,14 @@ same-kind a b e = rw e
 
 abbrev Inv-loop : tie.InvT-loop
 Inv-loop gates ws₀ fs₀ sets₀ coeffs₀ now₀ i₀ ws fs sets coeffs now i =
-    Pending gates i now₀ now (slices ws₀ fs₀ sets₀ coeffs₀) (slices ws fs sets coeffs)
+    Pending gates i now₀ now (byWords ws₀ fs₀ sets₀ coeffs₀) (byWords ws fs sets coeffs) × (Level ws fs × Level sets coeffs)
 
 abbrev μ-loop : tie.MeasureT-loop
 μ-loop gates ws₀ fs₀ sets₀ coeffs₀ now₀ i₀ ws fs sets coeffs now i = i
+
+-- the function's entry, from the loop's head
+abbrev entry : tie.At-loop Inv-loop μ-loop → tie.Start Inv-loop μ-loop
+entry c = c .before .before .before .before .before .before
 
 -- from where `moves` has answered to the loop's test
 abbrev to-test : tie.After-moves Inv-loop μ-loop → tie.In-loop Inv-loop μ-loop
@@ -66,7 +72,7 @@ to-inverse-kind c = c .before .before .before .before
 -- a gate that only moves wires is its own inverse
 own : (c : tie.Then1 Inv-loop μ-loop) →
     let at-loop = to-test (c .before) .before in
-    let bytes = now (at-loop .before .before .before .before .before .before .args .gates) in
+    let bytes = now (entry at-loop .args .gates) in
     let j = at-loop .loop .i - 3 in
     (movesOnly (gateAt bytes j) ≡ true) × (gateAt bytes j ≡ inverseAt bytes j)
 own c =
@@ -77,7 +83,7 @@ loop-holds : tie.Need-loop-holds Inv-loop μ-loop
 loop-holds c =
     let start = c .before .before .before .before .before in
     let whole = take-length (now (start .args .gates)) in
-    record { within = omega arith; threes = omega (arith, start .pre .0); run = rw whole (none-run _ _ _ (start .pre .1)) }
+    (record { within = omega arith; threes = omega (arith, start .pre .0); run = rw whole (none-run _ _ _ (start .pre .1)) }, start .pre .2)
 
 sub-i : tie.Need-sub-i Inv-loop μ-loop
 sub-i c = omega arith
@@ -104,8 +110,9 @@ move-wires-requires : tie.Need-move-wires-requires Inv-loop μ-loop
 move-wires-requires c κs =
     let then = c .before .before in
     let test = to-test (then .before) in
-    let fit = fits (test .loop-test .taken) (test .before .loop .inv) (own then .1) in
-    (own then .0, fit .within .0, fit .flips)
+    let inv = test .before .loop .inv in
+    let fit = fits (test .loop-test .taken) (inv .0) (own then .1) in
+    (own then .0, rw (fit .flips) (fit .within .0), inv .1 .0)
 
 loop-less : tie.Need-loop-less Inv-loop μ-loop
 loop-less c = omega arith
@@ -118,9 +125,11 @@ loop-again c =
     let then = at-move-wires .before .before .before in
     let test = to-test (then .before) in
     let some = test .loop-test .taken in
-    let pending = test .before .loop .inv in
-    ran some pending (own then .1) (moves-leaves _ _ _ _ _ (fits some pending (own then .1)) (moved .ensures))
-    (record { wires = kept .0; flips = kept .1 .0; sets = refl; coeffs = refl })
+    let inv = test .before .loop .inv in (
+      ran some (inv .0) (own then .1) (moves-leaves _ _ _ _ _ (fits some (inv .0) (own then .1)) (moved .ensures))
+          (words-long _ _ _ _ (kept .0) (kept .1 .0) refl refl),
+      (omega (arith, kept .0, kept .1 .0, inv .1 .0), inv .1 .1),
+    )
 
 inverse-kind-requires : tie.Need-inverse-kind-requires Inv-loop μ-loop
 inverse-kind-requires c κs = tt
@@ -129,9 +138,11 @@ run-gate-requires : tie.Need-run-gate-requires Inv-loop μ-loop
 run-gate-requires c κs =
     let kind = to-inverse-kind c .inverse-kind .ensures in
     let else = to-inverse-kind c .before in
-    let test = to-test (else .before) in (
+    let test = to-test (else .before) in
+    let inv = test .before .loop .inv in (
       rw kind (inverse-stays _ _ _ (sym (else .before .moves .ensures _ _) ∙ else .if1 .left)),
-      fits (test .loop-test .taken) (test .before .loop .inv) (same-kind _ _ kind),
+      fits (test .loop-test .taken) (inv .0) (same-kind _ _ kind),
+      inv .1,
     )
 
 loop-less-2 : tie.Need-loop-less-2 Inv-loop μ-loop
@@ -143,27 +154,33 @@ loop-again-2 c =
     let kept = at-run-gate .run-gate .kept .1 .1 .1 .1 in
     let at-inverse-kind = to-inverse-kind (at-run-gate .before) in
     let test = to-test (at-inverse-kind .before .before) in
-    ran (test .loop-test .taken) (test .before .loop .inv) (same-kind _ _ (at-inverse-kind .inverse-kind .ensures))
-    (at-run-gate .run-gate .ensures)
-    (record { wires = kept .0; flips = kept .1 .0; sets = kept .1 .1 .0; coeffs = kept .1 .1 .1 .0 })
+    let inv = test .before .loop .inv in (
+      ran (test .loop-test .taken) (inv .0) (same-kind _ _ (at-inverse-kind .inverse-kind .ensures)) (at-run-gate .run-gate .ensures)
+          (words-long _ _ _ _ (kept .0) (kept .1 .0) (kept .1 .1 .0) (kept .1 .1 .1 .0)),
+      (omega (arith, kept .0, kept .1 .0, inv .1 .0), omega (arith, kept .1 .1 .0, kept .1 .1 .1 .0, inv .1 .1)),
+    )
 
 same-length : tie.Need-same-length Inv-loop μ-loop
-same-length c = c .before .loop .inv .run .long .wires
+same-length c =
+    let inv = c .before .loop .inv in
+    omega (arith, inv .1 .0, inv .0 .run .long .flips, entry (c .before) .pre .2 .0)
 
 same-length-2 : tie.Need-same-length-2 Inv-loop μ-loop
-same-length-2 c = c .before .loop .inv .run .long .flips
+same-length-2 c = c .before .loop .inv .0 .run .long .flips
 
 same-length-3 : tie.Need-same-length-3 Inv-loop μ-loop
-same-length-3 c = c .before .loop .inv .run .long .sets
+same-length-3 c =
+    let inv = c .before .loop .inv in
+    omega (arith, inv .1 .1, inv .0 .run .long .coeffs, entry (c .before) .pre .2 .1)
 
 same-length-4 : tie.Need-same-length-4 Inv-loop μ-loop
-same-length-4 c = c .before .loop .inv .run .long .coeffs
+same-length-4 c = c .before .loop .inv .0 .run .long .coeffs
 
 returns : tie.Need-returns Inv-loop μ-loop
 unfolding raws inverseList
 returns c =
     let done : c .before .loop .i ≡ 0 = omega arith in
-    all-run (rw done at (c .before .loop .inv .run))
+    all-run (rw done at (c .before .loop .inv .0 .run))
 
 pub backwards-spec : {M : Type 1} → statement M
 backwards-spec =

@@ -1,4 +1,4 @@
--- `phase_sum_building::forwards` meets its contract. The loop's invariant: the gates from place i on are still to run.
+-- `phase_sum_building::forwards` meets its contract. The loop's invariant: the gates from place i on are still to run, and the words are level.
 -- Assumes nothing.
 use mathlib.Core.Path.{_≡_, refl, sym, _∙_}
 use mathlib.Core.List.{List, [], _∷_}
@@ -8,8 +8,9 @@ use lib.ListN.{length, drop, drop-of-length-le}
 use Rattle.record_format.specs.Reading.{raws, gatesIn}
 use Rattle.record_format.proofs.Parts.{gateAt, gates-from}
 use Rattle.phase_sum_types.specs.declared.Run.{Run}
-use Rattle.phase_sum_types.specs.Workspace.{Lent, slices}
+use Rattle.phase_sum_types.specs.Workspace.{Lent, Level}
 use Rattle.phase_sum_types.specs.Unmerged.{appendGates, sumIn, Runnable, Runs, RunsAll}
+use Rattle.phase_sum_types.proofs.TwoWords.{byWords, words-long}
 use Rattle.phase_sum_types.proofs.Running.{AsLong, ToRun, none-run, one-run, all-run, first-fit, moves-leaves}
 use Rattle.phase_sum_building.proofs.forwards.Statement.{statement}
 use Rattle.phase_sum_building.proofs.forwards.Tie as tie
@@ -42,10 +43,14 @@ all-ran {bytes} none pending = all-run (rw (drop-of-length-le bytes none) at (pe
 
 abbrev Inv-loop : tie.InvT-loop
 Inv-loop gates ws₀ fs₀ sets₀ coeffs₀ now₀ i₀ ws fs sets coeffs now i =
-    Pending gates i now₀ now (slices ws₀ fs₀ sets₀ coeffs₀) (slices ws fs sets coeffs)
+    Pending gates i now₀ now (byWords ws₀ fs₀ sets₀ coeffs₀) (byWords ws fs sets coeffs) × (Level ws fs × Level sets coeffs)
 
 abbrev μ-loop : tie.MeasureT-loop
 μ-loop gates ws₀ fs₀ sets₀ coeffs₀ now₀ i₀ ws fs sets coeffs now i = length gates - i
+
+-- the function's entry, from the loop's head
+abbrev entry : tie.At-loop Inv-loop μ-loop → tie.Start Inv-loop μ-loop
+entry c = c .before .before .before .before .before .before
 
 -- from the call of `move_wires` to the loop's test
 abbrev moving : tie.After-move-wires-arg2 Inv-loop μ-loop → tie.In-loop Inv-loop μ-loop
@@ -57,8 +62,8 @@ running c = c .before .before .before .before .before .before .before .before .b
 
 loop-holds : tie.Need-loop-holds Inv-loop μ-loop
 loop-holds c =
-    let start = c .before .before .before .before .before in
-    record { within = omega arith; threes = omega (arith, start .pre .0); run = none-run _ _ _ (start .pre .1) }
+    let pre = c .before .before .before .before .before .pre in
+    (record { within = omega arith; threes = omega (arith, pre .0); run = none-run _ _ _ (pre .1) }, pre .2)
 
 shared-slice-read-kind : tie.Need-shared-slice-read-kind Inv-loop μ-loop
 shared-slice-read-kind c = omega arith
@@ -84,9 +89,10 @@ moves-requires c κs = tt
 move-wires-requires : tie.Need-move-wires-requires Inv-loop μ-loop
 move-wires-requires c κs =
     let test = moving c in
-    let fit = fits (test .loop-test .taken) (test .before .loop .inv) in
+    let inv = test .before .loop .inv in
+    let fit = fits (test .loop-test .taken) (inv .0) in
     let if1 = c .before .before in
-    (sym (if1 .before .moves .ensures _ _) ∙ if1 .if1 .taken, fit .within .0, fit .flips)
+    (sym (if1 .before .moves .ensures _ _) ∙ if1 .if1 .taken, rw (fit .flips) (fit .within .0), inv .1 .0)
 
 loop-less : tie.Need-loop-less Inv-loop μ-loop
 loop-less c = omega arith
@@ -98,15 +104,18 @@ loop-again c =
     let kept = moved .kept .1 .1 .1 in
     let test = moving (at-move-wires .before) in
     let some = test .loop-test .taken in
-    let pending = test .before .loop .inv in
-    ran some pending (moves-leaves _ _ _ _ _ (fits some pending) (moved .ensures))
-    (record { wires = kept .0; flips = kept .1 .0; sets = refl; coeffs = refl })
+    let inv = test .before .loop .inv in (
+      ran some (inv .0) (moves-leaves _ _ _ _ _ (fits some (inv .0)) (moved .ensures))
+          (words-long _ _ _ _ (kept .0) (kept .1 .0) refl refl),
+      (omega (arith, kept .0, kept .1 .0, inv .1 .0), inv .1 .1),
+    )
 
 run-gate-requires : tie.Need-run-gate-requires Inv-loop μ-loop
 run-gate-requires c κs =
     let test = running c in
     let if1 = c .before .before .before .before in
-    (sym (if1 .before .moves .ensures _ _) ∙ if1 .if1 .left, fits (test .loop-test .taken) (test .before .loop .inv))
+    let inv = test .before .loop .inv in
+    (sym (if1 .before .moves .ensures _ _) ∙ if1 .if1 .left, fits (test .loop-test .taken) (inv .0), inv .1)
 
 loop-less-2 : tie.Need-loop-less-2 Inv-loop μ-loop
 loop-less-2 c = omega arith
@@ -116,23 +125,30 @@ loop-again-2 c =
     let at-run-gate = c .before .before .before .before .before .before .before .before in
     let kept = at-run-gate .run-gate .kept .1 .1 .1 .1 in
     let test = running (at-run-gate .before) in
-    ran (test .loop-test .taken) (test .before .loop .inv) (at-run-gate .run-gate .ensures)
-    (record { wires = kept .0; flips = kept .1 .0; sets = kept .1 .1 .0; coeffs = kept .1 .1 .1 .0 })
+    let inv = test .before .loop .inv in (
+      ran (test .loop-test .taken) (inv .0) (at-run-gate .run-gate .ensures)
+          (words-long _ _ _ _ (kept .0) (kept .1 .0) (kept .1 .1 .0) (kept .1 .1 .1 .0)),
+      (omega (arith, kept .0, kept .1 .0, inv .1 .0), omega (arith, kept .1 .1 .0, kept .1 .1 .1 .0, inv .1 .1)),
+    )
 
 same-length : tie.Need-same-length Inv-loop μ-loop
-same-length c = c .before .loop .inv .run .long .wires
+same-length c =
+    let inv = c .before .loop .inv in
+    omega (arith, inv .1 .0, inv .0 .run .long .flips, entry (c .before) .pre .2 .0)
 
 same-length-2 : tie.Need-same-length-2 Inv-loop μ-loop
-same-length-2 c = c .before .loop .inv .run .long .flips
+same-length-2 c = c .before .loop .inv .0 .run .long .flips
 
 same-length-3 : tie.Need-same-length-3 Inv-loop μ-loop
-same-length-3 c = c .before .loop .inv .run .long .sets
+same-length-3 c =
+    let inv = c .before .loop .inv in
+    omega (arith, inv .1 .1, inv .0 .run .long .coeffs, entry (c .before) .pre .2 .1)
 
 same-length-4 : tie.Need-same-length-4 Inv-loop μ-loop
-same-length-4 c = c .before .loop .inv .run .long .coeffs
+same-length-4 c = c .before .loop .inv .0 .run .long .coeffs
 
 returns : tie.Need-returns Inv-loop μ-loop
-returns c = all-ran (c .loop-test .left) (c .before .loop .inv)
+returns c = all-ran (c .loop-test .left) (c .before .loop .inv .0)
 
 pub forwards-spec : {M : Type 1} → statement M
 forwards-spec =

@@ -9,8 +9,11 @@ use lib.ListN.{length, take, replicate, length-set}
 use denote.Ref.{now}
 use Rattle.phase_sum_meaning.specs.Sets.{single, from}
 use Rattle.phase_sum_meaning.specs.Building.{initial}
+use Rattle.phase_sum_meaning.specs.Room.{wordsEach}
+use Rattle.phase_sum_words.specs.Words.{setsIn}
 use Rattle.phase_sum_types.specs.Workspace.{zipTerms}
 use Rattle.phase_sum_types.proofs.Storing.{stored-same}
+use Rattle.phase_sum_types.proofs.TwoWords.{level-places}
 use Rattle.phase_sum_types.proofs.WireLaws.{inputs-more, flips-more, inputs-all}
 use Rattle.phase_sum_building.proofs.start.Statement.{statement}
 use Rattle.phase_sum_building.proofs.start.Tie as tie
@@ -18,12 +21,12 @@ use Rattle.phase_sum_building.proofs.start.Tie as tie
 abbrev Inv-loop : tie.InvT-loop
 Inv-loop ws₀ fs₀ n q₀ ws fs q =
     (q ≤ n)
-    × (n ≡ length ws₀)
+    × (n ≡ length fs₀)
     × (n ≤ 16)
-    × (length ws ≡ n)
+    × (length ws ≡ length ws₀)
     × (length fs ≡ n)
-    × (length fs₀ ≡ n)
-    × (take q ws ≡ map single (from 0 q))
+    × (length (setsIn wordsEach ws) ≡ n)
+    × (take q (setsIn wordsEach ws) ≡ map single (from 0 q))
     × (take q fs ≡ replicate q false)
 
 abbrev μ-loop : tie.MeasureT-loop
@@ -31,7 +34,10 @@ abbrev μ-loop : tie.MeasureT-loop
 
 loop-holds : tie.Need-loop-holds Inv-loop μ-loop
 unfolding from
-loop-holds c = (omega arith, refl, c .before .before .pre .0, refl, c .before .before .pre .1, c .before .before .pre .1, refl, refl)
+loop-holds c =
+    let start = c .before .before in
+    let a = start .args in
+    (omega arith, refl, start .pre .0, refl, refl, level-places (now (a .ws)) (now (a .fs)) (start .pre .1), refl, refl)
 
 cast-single : tie.Need-cast-single Inv-loop μ-loop
 cast-single c = omega arith
@@ -61,10 +67,10 @@ loop-again c =
       omega arith,
       inv .1,
       inv .2,
-      length-set (loop .ws) (loop .q) (single (loop .q)) ∙ inv .3,
+      at-store .store .kept .0 ∙ inv .3,
       length-set (loop .fs) (loop .q) false ∙ inv .4,
-      inv .5,
-      inputs-more (loop .q) (loop .ws) (omega arith) (inv .6),
+      length-set (setsIn wordsEach (loop .ws)) (loop .q) (single (loop .q)) ∙ inv .5,
+      inputs-more (loop .q) (setsIn wordsEach (loop .ws)) (omega arith) (inv .6),
       flips-more (loop .q) (loop .fs) (omega arith) (inv .7),
     )
 
@@ -72,22 +78,24 @@ cast-t12 : tie.Need-cast-t12 Inv-loop μ-loop
 cast-t12 c = omega arith
 
 same-length : tie.Need-same-length Inv-loop μ-loop
-same-length c = c .before .loop .inv .3 ∙ c .before .loop .inv .1
+same-length c = c .before .loop .inv .3
 
 same-length-2 : tie.Need-same-length-2 Inv-loop μ-loop
-same-length-2 c = omega (arith, c .before .loop .inv .4, c .before .loop .inv .5)
+same-length-2 c = c .before .loop .inv .4 ∙ c .before .loop .inv .1
 
 returns : tie.Need-returns Inv-loop μ-loop
 unfolding initial zipTerms
 returns c ss cs =
     let loop = c .before .loop in
     let inv = loop .inv in
-    let all : loop .q ≡ length (now (c .before .before .before .before .args .ws)) = omega (arith, inv .1, inv .0) in
+    let start = c .before .before .before .before in
+    let a = start .args in
+    let all : loop .q ≡ length (now (a .fs)) = omega (arith, inv .1, inv .0) in
     record {
-      next = omega (arith, inv .1);
+      next = omega (arith, inv .1, level-places (now (a .ws)) (now (a .fs)) (start .pre .1));
       constant = refl;
       wires =
-          inputs-all _ (loop .ws) (loop .fs) (inv .3 ∙ inv .1) (inv .4 ∙ inv .1) (rw all at (inv .6)) (rw all at (inv .7));
+          inputs-all _ (setsIn wordsEach (loop .ws)) (loop .fs) (inv .5 ∙ inv .1) (inv .4 ∙ inv .1) (rw all at (inv .6)) (rw all at (inv .7));
       terms = stored-same 0 ss cs zero-le zero-le;
     }
 

@@ -34,7 +34,7 @@ returns c =
     let phase = at-put-product .put-product in
     controlled-z-leaves (a .run) (a .a) (a .b) (lent (a .ws) (a .fs) (a .sets) (a .coeffs)) (at-wire .wire .result)
     (at-wire2 .wire2 .result) (phase .result)
-    (start .pre .started)
+    (start .pre .0 .started)
     (at-wire .wire .ensures)
     (at-wire2 .wire2 .ensures)
     (phase .ensures)

@@ -1,6 +1,8 @@
 -- `phase_sum_gates::diagonal` meets its contract.
 -- Assumes nothing.
 use native.Mathlib.Omega.{arith}
+use denote.Ref.{now}
+use Rattle.phase_sum_types.proofs.TwoWords.{level-places}
 use Rattle.phase_sum_types.proofs.Running.{diagonal-leaves}
 use Rattle.phase_sum_types.specs.Workspace.{lent}
 use borrow.Author.Needs.{needs}
@@ -10,7 +12,7 @@ use Rattle.phase_sum_gates.proofs.diagonal.Tie as tie
 wire-requires : tie.Need-wire-requires
 wire-requires c κs =
     let pre = c .before .before .before .before .before .pre in
-    (pre .0, omega (arith, pre .0, pre .1))
+    (omega (arith, pre .0, pre .3 .0), pre .0)
 
 put-phase-requires : tie.Need-put-phase-requires
 put-phase-requires c κs =
@@ -29,8 +31,9 @@ returns c =
     let at-start = at-wire .before .before .before .before .before .before in
     let a = at-start .args in
     let pre = at-start .pre in
+    let wires = level-places (now (a .ws)) (now (a .fs)) (pre .3 .0) in
     diagonal-leaves (a .run) (a .c) (a .q) (lent (a .ws) (a .fs) (a .sets) (a .coeffs)) (at-wire .wire .result)
-    (at-phase .put-phase .result) (pre .2) (at-wire .wire .ensures) (at-phase .put-phase .ensures)
+    (at-phase .put-phase .result) (rw wires (pre .1)) (at-wire .wire .ensures) (at-phase .put-phase .ensures)
 
 pub diagonal-spec : {M : Type 1} → statement M
 diagonal-spec =

@@ -12,6 +12,14 @@ use borrow.Author.Needs.{needs}
 use Rattle.phase_sum_gates.proofs.hadamard.Statement.{statement}
 use Rattle.phase_sum_gates.proofs.hadamard.Tie as tie
 
+-- the function's entry, from where `put_product` has answered
+abbrev entry : tie.After-put-product → tie.Start
+entry c = c .before .before .before .before .before .before .before .before .before .before .before .before
+
+-- from where `set_wire` has answered to where `put_product` had
+abbrev to-put-product : tie.After-set-wire → tie.After-put-product
+to-put-product c = c .before .before .before .before .before .before .before
+
 single-requires : tie.Need-single-requires
 single-requires c κs = unfold tally oneQubitKind in omega arith
 
@@ -25,7 +33,7 @@ set-wire-requires : tie.Need-set-wire-requires
 set-wire-requires c κs = search needs
 
 add-t26 : tie.Need-add-t26
-add-t26 c = search needs
+add-t26 c = omega (arith, entry (to-put-product (c .before .before .before .before)) .pre .0 .variables)
 
 same-length : tie.Need-same-length
 same-length c = search needs
@@ -42,14 +50,14 @@ same-length-4 c = search needs
 returns : tie.Need-returns
 returns c =
     let at-set-wire = c .before .before .before .before in
-    let at-put-product = at-set-wire .before .before .before .before .before .before .before in
+    let at-put-product = to-put-product at-set-wire in
     let at-wire = at-put-product .before .before .before in
     let at-single = at-wire .before .before .before in
-    let start = at-single .before .before .before .before .before .before in
+    let start = entry at-put-product in
     let a = start .args in
     let phase = at-put-product .put-product in
     hadamard-leaves (a .run) (a .q) (lent (a .ws) (a .fs) (a .sets) (a .coeffs)) _ _ (at-wire .wire .result) _ (phase .result) _
-    (start .pre .started)
+    (start .pre .0 .started)
     refl
     (at-wire .wire .ensures)
     (ap of (at-single .single .ensures))

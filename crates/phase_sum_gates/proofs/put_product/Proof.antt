@@ -7,8 +7,9 @@ use mathlib.Core.List.{[], _∷_}
 use lib.ListN.{length}
 use borrow.Author.Needs.{needs}
 use Rattle.phase_sum_meaning.specs.Building.{withPhase}
-use Rattle.phase_sum_types.specs.Workspace.{parityOf}
+use Rattle.phase_sum_types.specs.Workspace.{Level, parityOf}
 use Rattle.phase_sum_types.specs.Unmerged.{putBehind}
+use Rattle.phase_sum_types.proofs.TwoWords.{all-inside}
 use Rattle.phase_sum_types.proofs.WireLaws.{stored-count, put-more}
 use Rattle.phase_sum_gates.proofs.put_product.Statement.{statement}
 use Rattle.phase_sum_gates.proofs.put_product.Tie as tie
@@ -16,13 +17,13 @@ use Rattle.phase_sum_gates.proofs.put_product.Tie as tie
 -- after the first term there is room for two more
 room-left :
     (c : tie.After-put-phase) →
-    (c .put-phase .result .count + 2 ≤ length (c .put-phase .last .1 .1 .1 .0))
+    Level (c .put-phase .last .1 .1 .1 .0) (c .put-phase .last .1 .1 .1 .1 .0)
     × (c .put-phase .result .count + 2 ≤ length (c .put-phase .last .1 .1 .1 .1 .0))
 unfolding putBehind
 room-left c =
     let p = c .put-phase in
-    let count = stored-count (_ ∷ []) (omega arith) (omega arith) (p .ensures .terms) in
-    (omega (arith, count, p .kept .1 .1 .1 .0), omega (arith, count, p .kept .1 .1 .1 .1 .0))
+    let count = stored-count (_ ∷ []) (all-inside _ (omega arith)) (omega arith) (p .ensures .terms) in
+    (omega (arith, p .kept .1 .1 .1 .0, p .kept .1 .1 .1 .1 .0), omega (arith, count, p .kept .1 .1 .1 .1 .0))
 
 put-phase-requires : tie.Need-put-phase-requires
 put-phase-requires c κs = search needs
@@ -31,7 +32,7 @@ put-phase-requires-2 : tie.Need-put-phase-requires-2
 put-phase-requires-2 c κs =
     let at-put-phase = c .before .before .before .before .before .before in
     let left = room-left (at-put-phase) in
-    (omega (arith, left .0), omega (arith, left .1))
+    (left .0, omega (arith, left .1))
 
 both-requires : tie.Need-both-requires
 both-requires c κs = search needs
@@ -43,8 +44,8 @@ put-phase-requires-3 c κs =
     let at-put-phase = at-put-phase2 .before .before .before .before .before .before .before in
     let p = at-put-phase2 .put-phase2 in
     let left = room-left at-put-phase in
-    let count = stored-count (_ ∷ []) (omega (arith, left .0)) (omega (arith, left .1)) (p .ensures .terms) in
-    (omega (arith, count, left .0, p .kept .1 .1 .1 .0), omega (arith, count, left .1, p .kept .1 .1 .1 .1 .0))
+    let count = stored-count (_ ∷ []) (all-inside _ (omega (arith, left .0, left .1))) (omega (arith, left .1)) (p .ensures .terms) in
+    (omega (arith, left .0, p .kept .1 .1 .1 .0, p .kept .1 .1 .1 .1 .0), omega (arith, count, left .1, p .kept .1 .1 .1 .1 .0))
 
 same-length : tie.Need-same-length
 same-length c = search needs

@@ -3,8 +3,8 @@
 use Prim.Native.Nat.{_<_}
 use native.Mathlib.Omega.{arith}
 use lib.ListN.{length}
-use denote.Ref.{now}
 use Rattle.amplitude.specs.Circuit.{tally}
+use Rattle.phase_sum_types.specs.Workspace.{setsAt}
 use Rattle.phase_sum_types.proofs.Running.{kind-y, kind-h, kind-cz, bytes-within, kind-diagonal, diagonal-room}
 use borrow.Author.Needs.{needs}
 use Rattle.phase_sum_gates.proofs.run_gate.Statement.{statement}
@@ -24,7 +24,8 @@ y-gate-requires : tie.Need-y-gate-requires
 y-gate-requires c κs =
     let then = c .before .before .before .before in
     let is-y = then .if1 .taken in
-    rw kind-y at (entry (then .before) .pre .1)
+    let pre = entry (then .before) .pre in
+    (rw kind-y at (pre .1), pre .2)
 
 same-length : tie.Need-same-length
 same-length c = search needs
@@ -48,7 +49,8 @@ hadamard-requires : tie.Need-hadamard-requires
 hadamard-requires c κs =
     let then = c .before .before .before .before in
     let is-h = then .if2 .taken in
-    rw kind-h at (entry (then .before .before) .pre .1)
+    let pre = entry (then .before .before) .pre in
+    (rw kind-h at (pre .1), pre .2)
 
 same-length-5 : tie.Need-same-length-5
 same-length-5 c = search needs
@@ -72,7 +74,8 @@ controlled-z-requires : tie.Need-controlled-z-requires
 controlled-z-requires c κs =
     let then = c .before .before .before .before in
     let is-cz = then .if3 .taken in
-    rw kind-cz at (entry (then .before .before .before) .pre .1)
+    let pre = entry (then .before .before .before) .pre in
+    (rw kind-cz at (pre .1), pre .2)
 
 same-length-9 : tie.Need-same-length-9
 same-length-9 c = search needs
@@ -103,8 +106,8 @@ diagonal-requires c κs =
     let a = e .args in
     let fits = e .pre .1 in
     let room = diagonal-room (a .kind) (a .a) (a .b) (kinds else .0) (kinds else .1) in
-    let within = bytes-within (length (now (a .ws))) (a .kind) (a .a) (a .b) (fits .within .0) in
-    (within .0, fits .flips, fits .started, omega (arith, room, fits .sets), omega (arith, room, fits .coeffs))
+    let within = bytes-within (length (setsAt (a .ws))) (a .kind) (a .a) (a .b) (fits .within .0) in
+    (omega (arith, within .0, fits .flips), omega (arith, fits .flips, fits .started), omega (arith, room, fits .coeffs), e .pre .2)
 
 same-length-13 : tie.Need-same-length-13
 same-length-13 c = search needs
@@ -123,7 +126,7 @@ returns-4 c =
     let at-diagonal = c .before .before .before .before in
     let at-diagonal-of = at-diagonal .before .before .before .before .before in
     let a = entry (at-diagonal-of .before .before .before .before) .args in
-    rw (at-diagonal-of .diagonal-of .ensures (length (now (a .ws))) (a .a) (a .b) _) (at-diagonal .diagonal .ensures)
+    rw (at-diagonal-of .diagonal-of .ensures (length (setsAt (a .ws))) (a .a) (a .b) _) (at-diagonal .diagonal .ensures)
 
 pub run-gate-spec : {M : Type 1} → statement M
 run-gate-spec =

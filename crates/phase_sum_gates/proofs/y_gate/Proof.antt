@@ -40,7 +40,7 @@ returns c =
     let phase = at-put-phase .put-phase in
     y-leaves (a .run) (a .q) (lent (a .ws) (a .fs) (a .sets) (a .coeffs)) _ (at-wire .wire .result) (phase .result)
     (c .add .result)
-    (start .pre .started)
+    (start .pre .0 .started)
     (at-wire .wire .ensures)
     (phase .ensures)
     (x-moved (a .q) _ _ (at-flip-wire .flip-wire .ensures))

@@ -2,7 +2,7 @@
 -- Assumes nothing.
 use denote.Ref.{now}
 use Rattle.phase_sum_types.proofs.Running.{cx-moves}
-use Rattle.phase_sum_types.specs.Workspace.{zipWires}
+use Rattle.phase_sum_types.specs.Workspace.{setsAt, zipWires}
 use borrow.Author.Needs.{needs}
 use Rattle.phase_sum_moving.proofs.add_wire.Statement.{statement}
 use Rattle.phase_sum_moving.proofs.add_wire.Tie as tie
@@ -33,7 +33,7 @@ returns c =
     let at-target = at-control .before .before .before in
     let a = at-target .before .before .before .before .before .args in
     rw (at-set .set-wire .ensures, at-both .both .ensures, at-control .wire2 .ensures, at-target .wire .ensures)
-    (cx-moves (a .control) (a .target) (zipWires (now (a .ws)) (now (a .fs))))
+    (cx-moves (a .control) (a .target) (zipWires (setsAt (a .ws)) (now (a .fs))))
 
 pub add-wire-spec : {M : Type 1} → statement M
 add-wire-spec =

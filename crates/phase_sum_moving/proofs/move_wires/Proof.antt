@@ -12,7 +12,7 @@ flip-wire-requires c κs =
     let a = c .before .before .before .before .before .args in
     let pre = c .before .before .before .before .before .pre in
     let within = bytes-within _ (a .kind) (a .a) (a .b) (pre .1) in
-    (within .0, omega (arith, within .0, pre .2))
+    (omega (arith, within .0, pre .2), within .0)
 
 same-length : tie.Need-same-length
 same-length c = search needs

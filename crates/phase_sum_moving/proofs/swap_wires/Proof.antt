@@ -2,7 +2,7 @@
 -- Assumes nothing.
 use denote.Ref.{now}
 use Rattle.phase_sum_types.proofs.Running.{swap-moves}
-use Rattle.phase_sum_types.specs.Workspace.{zipWires}
+use Rattle.phase_sum_types.specs.Workspace.{setsAt, zipWires}
 use borrow.Author.Needs.{needs}
 use Rattle.phase_sum_moving.proofs.swap_wires.Statement.{statement}
 use Rattle.phase_sum_moving.proofs.swap_wires.Tie as tie
@@ -33,7 +33,7 @@ returns c =
     let at-first = at-second .before .before .before in
     let a = at-first .before .before .before .before .before .args in
     rw (at-b .set-wire2 .ensures, at-a .set-wire .ensures, at-second .wire2 .ensures, at-first .wire .ensures)
-    (swap-moves (a .a) (a .b) (zipWires (now (a .ws)) (now (a .fs))))
+    (swap-moves (a .a) (a .b) (zipWires (setsAt (a .ws)) (now (a .fs))))
 
 pub swap-wires-spec : {M : Type 1} → statement M
 swap-wires-spec =

@@ -8,15 +8,20 @@ use lib.ListN.{getD}
 use borrow.Author.Needs.{needs}
 use Rattle.phase_sum_meaning.specs.Phase.{term}
 use Rattle.phase_sum_meaning.specs.Stepping as stepping
+use Rattle.phase_sum_meaning.specs.Room.{wordsEach}
+use Rattle.phase_sum_words.specs.Words.{setsIn}
 use Rattle.phase_sum_types.specs.Workspace.{setOf, zipTerms, held}
 use Rattle.phase_sum_types.proofs.Storing.{held-more}
+use Rattle.phase_sum_types.proofs.TwoWords.{inside}
 use Rattle.phase_sum_types.proofs.Passes.{coeffs-more, oddHalves-more}
 use Rattle.phase_sum_reading.proofs.halves_of.Statement.{statement}
 use Rattle.phase_sum_reading.proofs.halves_of.Tie as tie
 
 abbrev Inv-loop : tie.InvT-loop
 Inv-loop sets coeffs count y sum₀ l₀ i₀ sum l i =
-    (i ≤ count) × (sum ≡ stepping.coeffs y (held i sets coeffs) % 8) × (setOf l ≡ stepping.oddHalves y (held i sets coeffs))
+    (i ≤ count)
+    × (sum ≡ stepping.coeffs y (held i (setsIn wordsEach sets) coeffs) % 8)
+    × (setOf l ≡ stepping.oddHalves y (held i (setsIn wordsEach sets) coeffs))
 
 abbrev μ-loop : tie.MeasureT-loop
 μ-loop sets coeffs count y sum₀ l₀ i₀ sum l i = count - i
@@ -28,20 +33,11 @@ loop-holds : tie.Need-loop-holds Inv-loop μ-loop
 unfolding stepping.coeffs stepping.oddHalves zipTerms
 loop-holds c = (omega arith, refl, c .empty .ensures)
 
-load-requires : tie.Need-load-requires Inv-loop μ-loop
-load-requires c κs = omega arith
-
-shared-slice-read-coeff-with : tie.Need-shared-slice-read-coeff-with Inv-loop μ-loop
-shared-slice-read-coeff-with c = omega arith
-
 coeff-with-requires : tie.Need-coeff-with-requires Inv-loop μ-loop
 coeff-with-requires c κs = search needs
 
 add-requires : tie.Need-add-requires Inv-loop μ-loop
 add-requires c κs = search needs
-
-shared-slice-read-odd-half : tie.Need-shared-slice-read-odd-half Inv-loop μ-loop
-shared-slice-read-odd-half c = omega arith
 
 odd-half-requires : tie.Need-odd-half-requires Inv-loop μ-loop
 odd-half-requires c κs = search needs
@@ -57,20 +53,21 @@ loop-less c = omega arith
 
 loop-again : tie.Need-loop-again Inv-loop μ-loop
 loop-again c =
-    let at-sum = c .before .before .before in
-    let at-load = at-sum .before .before .before in
-    let at-loop = at-load .before .before in
+    let at-half = c .before in
+    let at-add = at-half .before in
+    let at-coeff = at-add .before in
+    let at-loop = at-coeff .before .before in
     let a = at-loop .before .before .before .before .args in
-    let ss = a .sets .now in
+    let words = a .sets .now in
+    let ss = setsIn wordsEach words in
     let cs = a .coeffs .now in
     let i = at-loop .loop .i in
     let ts = held i ss cs in
     let t = term (getD ss i 0) (getD cs i 0) in
-    let inv = at-loop .loop .inv in
-    let more = held-more i ss cs (omega arith) (omega arith) in (
+    let more = held-more i ss cs (inside words (omega arith)) (omega arith) in (
       omega arith,
-      rw (more, coeffs-more (a .y) ts t) (omega (arith, at-sum .add .ensures, rw (at-load .load .ensures) at (at-sum .before .coeff-with .ensures))),
-      rw (more, oddHalves-more (a .y) ts t, c .exclusive-or .ensures, c .before .odd-half .ensures, at-load .load .ensures, inv .2),
+      rw (more, coeffs-more (a .y) ts t) (omega (arith, at-add .add .ensures, at-coeff .coeff-with .ensures)),
+      rw (more, oddHalves-more (a .y) ts t, c .exclusive-or .ensures, at-half .odd-half .ensures, at-loop .loop .inv .2),
     )
 
 returns : tie.Need-returns Inv-loop μ-loop
@@ -88,11 +85,8 @@ halves-of-spec =
     μ-loop
     empty-requires
     loop-holds
-    load-requires
-    shared-slice-read-coeff-with
     coeff-with-requires
     add-requires
-    shared-slice-read-odd-half
     odd-half-requires
     exclusive-or-requires
     add-i

@@ -7,15 +7,18 @@ use native.Mathlib.Omega.{arith}
 use lib.ListN.{getD}
 use borrow.Author.Needs.{needs}
 use Rattle.phase_sum_meaning.specs.Phase.{term}
+use Rattle.phase_sum_meaning.specs.Room.{wordsEach}
 use Rattle.phase_sum_types.specs.Inner.{oddBoth}
+use Rattle.phase_sum_words.specs.Words.{setsIn}
 use Rattle.phase_sum_types.specs.Workspace.{setOf, zipTerms, held}
 use Rattle.phase_sum_types.proofs.Storing.{held-more}
+use Rattle.phase_sum_types.proofs.TwoWords.{inside}
 use Rattle.phase_sum_types.proofs.Passes.{oddBoth-more}
 use Rattle.phase_sum_reading.proofs.odd_both.Statement.{statement}
 use Rattle.phase_sum_reading.proofs.odd_both.Tie as tie
 
 abbrev Inv-loop : tie.InvT-loop
-Inv-loop sets coeffs count i j both₀ t₀ both t = (t ≤ count) × (setOf both ≡ oddBoth i j (held t sets coeffs))
+Inv-loop sets coeffs count i j both₀ t₀ both t = (t ≤ count) × (setOf both ≡ oddBoth i j (held t (setsIn wordsEach sets) coeffs))
 
 abbrev μ-loop : tie.MeasureT-loop
 μ-loop sets coeffs count i j both₀ t₀ both t = count - t
@@ -50,12 +53,13 @@ loop-again c =
     let at-load = c .before .before .before in
     let at-loop = at-load .before .before in
     let a = at-loop .before .before .before .before .args in
-    let ss = a .sets .now in
+    let words = a .sets .now in
+    let ss = setsIn wordsEach words in
     let cs = a .coeffs .now in
     let t = at-loop .loop .t in (
       omega arith,
       rw (
-        held-more t ss cs (omega arith) (omega arith),
+        held-more t ss cs (inside words (omega arith)) (omega arith),
         oddBoth-more (a .i) (a .j) (held t ss cs) (term (getD ss t 0) (getD cs t 0)),
         c .exclusive-or .ensures,
         c .before .odd-if-both .ensures,

@@ -9,14 +9,17 @@ use borrow.Author.Needs.{needs}
 use Rattle.amplitude.specs.Bits.{bit}
 use Rattle.amplitude.proofs.BitLaws.{bit-zero}
 use Rattle.phase_sum_meaning.specs.Phase.{term, inOdd}
+use Rattle.phase_sum_meaning.specs.Room.{wordsEach}
+use Rattle.phase_sum_words.specs.Words.{setsIn}
 use Rattle.phase_sum_types.specs.Workspace.{setOf, zipTerms, held}
 use Rattle.phase_sum_types.proofs.Storing.{held-more}
+use Rattle.phase_sum_types.proofs.TwoWords.{inside}
 use Rattle.phase_sum_types.proofs.Passes.{inOdd-more}
 use Rattle.phase_sum_reading.proofs.odd_mask.Statement.{statement}
 use Rattle.phase_sum_reading.proofs.odd_mask.Tie as tie
 
 abbrev Inv-loop : tie.InvT-loop
-Inv-loop sets coeffs count mask₀ i₀ mask i = (i ≤ count) × ((v : ℕ) → bit v (setOf mask) ≡ inOdd v (held i sets coeffs))
+Inv-loop sets coeffs count mask₀ i₀ mask i = (i ≤ count) × ((v : ℕ) → bit v (setOf mask) ≡ inOdd v (held i (setsIn wordsEach sets) coeffs))
 
 abbrev μ-loop : tie.MeasureT-loop
 μ-loop sets coeffs count mask₀ i₀ mask i = count - i
@@ -51,10 +54,11 @@ loop-again c =
     let at-load = c .before .before .before in
     let at-loop = at-load .before .before in
     let a = at-loop .before .before .before .before .args in
-    let ss = a .sets .now in
+    let words = a .sets .now in
+    let ss = setsIn wordsEach words in
     let cs = a .coeffs .now in
     let i = at-loop .loop .i in
-    let more = held-more i ss cs (omega arith) (omega arith) in (
+    let more = held-more i ss cs (inside words (omega arith)) (omega arith) in (
       omega arith,
       λ v.
           rw

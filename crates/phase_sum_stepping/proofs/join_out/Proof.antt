@@ -4,6 +4,7 @@ use native.Mathlib.Omega.{arith}
 use Rattle.phase_sum_meaning.specs.Parity.{of, replaceIn}
 use Rattle.phase_sum_meaning.specs.Stepping.{replace, takeOut}
 use Rattle.phase_sum_types.specs.Workspace.{setOf, parityOf, lent, sumOf}
+use Rattle.phase_sum_types.proofs.TwoWords.{all-inside}
 use Rattle.phase_sum_types.proofs.Members.{members-without}
 use Rattle.phase_sum_types.proofs.Changing.{became}
 use Rattle.phase_sum_types.proofs.Passes.{rebuilt, joined-out}
@@ -27,7 +28,14 @@ without-requires-2 : tie.Need-without-requires-2
 without-requires-2 c κs = search needs
 
 canonical-requires : tie.Need-canonical-requires
-canonical-requires c κs = search needs
+canonical-requires c κs =
+    let at-replace-unmerged = c .before .before .before .before .before .before .before .before in
+    let at-take-out-unmerged = at-replace-unmerged .before .before .before .before .before in
+    let start = at-take-out-unmerged .before .before .before .before .before .before .before .before .before .before .before .before .before .before in
+    let pre = start .pre in
+    let kept = at-replace-unmerged .replace-unmerged .kept in
+    let taken = at-take-out-unmerged .take-out-unmerged .kept in
+    (omega (arith, kept .0, kept .1 .0, taken .0, pre .3 .1), omega (arith, kept .1 .0, pre .2 .coeffs))
 
 same-length : tie.Need-same-length
 same-length c = search needs
@@ -53,12 +61,14 @@ returns c =
     let start = at-replace-in-wires .before .before .before .before .before .before .before .before in
     let a = start .args in
     let stands = start .pre .2 in
+    let taken = at-take-out-unmerged .take-out-unmerged in
     let p = parityOf (a .p) in
     let l = lent (a .ws) (a .fs) (a .sets) (a .coeffs) in
     let sent = at-replace-unmerged .replace-unmerged .ensures in
     became (replace (a .z) p (takeOut (a .y) (sumOf (a .sum) l))) _ l _
-    (joined-out (a .y) (a .z) p (a .sum .phase) (stands .sets) (stands .coeffs) (at-take-out-unmerged .take-out-unmerged .ensures)
-    (rebuilt (λ u. replaceIn (a .z) p (of u)) (a .sum .phase) (omega arith) (stands .coeffs) (sent .0) (sent .1)
+    (joined-out (a .y) (a .z) p (a .sum .phase) (stands .sets) (stands .coeffs) (taken .ensures)
+    (rebuilt (λ u. replaceIn (a .z) p (of u)) (a .sum .phase)
+    (all-inside _ (omega (arith, taken .kept .0, start .pre .3 .1, stands .coeffs))) (stands .coeffs) (sent .0) (sent .1)
     (at-canonical .canonical .ensures)))
     (at-replace-in-wires .replace-in-wires .ensures)
     (rw

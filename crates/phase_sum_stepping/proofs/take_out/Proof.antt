@@ -2,10 +2,10 @@
 -- Assumes nothing.
 use mathlib.Core.Path.{refl}
 use native.Mathlib.Omega.{arith}
-use denote.Ref.{now}
 use Rattle.phase_sum_meaning.specs.Parity.{of}
 use Rattle.phase_sum_meaning.specs.Stepping.{outOf, takeOut}
-use Rattle.phase_sum_types.specs.Workspace.{setOf, held, slices, sumOf}
+use Rattle.phase_sum_types.specs.Workspace.{setOf, setsAt, held, slices, sumOf}
+use Rattle.phase_sum_types.proofs.TwoWords.{all-inside}
 use Rattle.phase_sum_types.proofs.Members.{members-without}
 use Rattle.phase_sum_types.proofs.Changing.{became}
 use Rattle.phase_sum_types.proofs.Passes.{sent-constant, sent-stored, rebuilt}
@@ -41,15 +41,16 @@ returns c ws fs =
     let start = at-take-out-unmerged .before .before .before .before .before in
     let a = start .args in
     let pre = start .pre in
-    let ss = now (a .sets) in
-    let cs = now (a .coeffs) in
+    let ss = setsAt (a .sets) in
+    let cs = a .coeffs .now in
     let phase = a .sum .phase in
     let n = phase .count in
     let l = slices ws fs ss cs in
+    let room = all-inside (a .sets .now) {m = n} (omega (arith, pre .1, pre .2)) in
     became (takeOut (a .y) (sumOf (a .sum) l)) _ l _
-    (rebuilt (λ u. of (outOf (a .y) u)) phase (pre .1) (pre .2)
+    (rebuilt (λ u. of (outOf (a .y) u)) phase room (pre .2)
     (rw (sent-constant (outOf (a .y)) (phase .constant) (held n ss cs)) (omega (arith, at-add .add .ensures)))
-    (sent-stored (outOf (a .y)) n ss cs _ (pre .1) (pre .2) (at-take-out-unmerged .take-out-unmerged .ensures))
+    (sent-stored (outOf (a .y)) n ss cs _ room (pre .2) (at-take-out-unmerged .take-out-unmerged .ensures))
     (at-canonical .canonical .ensures))
     refl
     (rw (at-without .without .ensures) (members-without (setOf (a .sum .live)) (a .y)))

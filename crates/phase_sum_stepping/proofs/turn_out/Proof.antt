@@ -3,9 +3,9 @@
 use mathlib.Core.Path.{refl}
 use mathlib.Core.List.{[], _∷_}
 use native.Mathlib.Omega.{arith}
-use denote.Ref.{now}
 use Rattle.phase_sum_meaning.specs.Stepping.{takeOut, turned}
-use Rattle.phase_sum_types.specs.Workspace.{setOf, slices, sumOf}
+use Rattle.phase_sum_types.specs.Workspace.{setOf, setsAt, slices, sumOf}
+use Rattle.phase_sum_types.proofs.TwoWords.{all-inside}
 use Rattle.phase_sum_types.proofs.Members.{members-without}
 use Rattle.phase_sum_types.proofs.Changing.{became}
 use Rattle.phase_sum_types.proofs.Passes.{turned-out}
@@ -35,7 +35,11 @@ add-requires c κs = search needs
 canonical-requires : tie.Need-canonical-requires
 canonical-requires c κs =
     let at-append = c .before .before .before .before .before .before .before .before .before in
-    let count = stored-count (_ ∷ []) (omega arith) (omega arith) (at-append .append .ensures) in
+    let at-take-out-unmerged = at-append .before .before .before .before .before .before in
+    let start = at-take-out-unmerged .before .before .before .before .before in
+    let pre = start .pre in
+    let long = at-take-out-unmerged .take-out-unmerged .kept .0 in
+    let count = stored-count (_ ∷ []) (all-inside _ (omega (arith, pre .1, pre .2, long))) (omega (arith, pre .2)) (at-append .append .ensures) in
     (omega arith, omega arith)
 
 same-length : tie.Need-same-length
@@ -58,9 +62,10 @@ returns c ws fs =
     let a = start .args in
     let pre = start .pre in
     let phase = a .sum .phase in
-    let l = slices ws fs (now (a .sets)) (now (a .coeffs)) in
+    let l = slices ws fs (setsAt (a .sets)) (a .coeffs .now) in
+    let room = all-inside (a .sets .now) {m = phase .count} (omega (arith, pre .1, pre .2)) in
     became (turned (a .c) (setOf (a .l)) (takeOut (a .y) (sumOf (a .sum) l))) _ l _
-    (turned-out (a .y) (a .c) (setOf (a .l)) phase (omega (arith, pre .1)) (omega (arith, pre .2))
+    (turned-out (a .y) (a .c) (setOf (a .l)) phase room (omega (arith, pre .2))
     (rw (← at-turn-constant .turn-constant .ensures) (at-add .add .ensures))
     (at-take-out-unmerged .take-out-unmerged .ensures)
     (rw (at-turn-coeff .turn-coeff .ensures) at (at-append .append .ensures))

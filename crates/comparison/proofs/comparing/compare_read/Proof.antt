@@ -2,15 +2,15 @@
 -- gives what comparing the records says. Only the first places are lent on, so what is behind them stays.
 -- Assumes nothing.
 use borrow.Author.Needs.{needs}
-use mathlib.Core.Path.{_≡_, refl, sym, _∙_}
+use mathlib.Core.Path.{_≡_, refl, sym}
 use mathlib.Core.List.{List}
 use Prim.Native.Nat.{ℕ}
 use lib.ListN.{length, take}
 use lib.Seq.{length-take-le}
 use denote.Ref.{RefT, now}
-use Rattle.phase_sum_meaning.specs.Room.{places}
+use Rattle.phase_sum_meaning.specs.Room.{places, setWords}
 use Rattle.comparison_types.proofs.PairLaws.{whole-of}
-use Rattle.comparison_types.proofs.ClauseLaws.{Passed, pair-passes, pass-fits, pass-said, refusal-said}
+use Rattle.comparison_types.proofs.ClauseLaws.{Passed, pair-passes, pass-level, pass-fits, pass-said, refusal-said}
 use Rattle.comparison.proofs.comparing.compare_read.Statement.{statement}
 use Rattle.comparison.proofs.comparing.compare_read.Tie as tie
 
@@ -48,8 +48,8 @@ gate-bytes-requires-2 : tie.Need-gate-bytes-requires-2
 gate-bytes-requires-2 c κs = whole-of (passed (c .before .before) .second)
 
 -- the lengths of the places that are lent on
-first-sets : (c : tie.After-n) → length (take places (now (sets-of c))) ≡ places
-first-sets c = length-take-le places (now (sets-of c)) (passed c .sets)
+first-sets : (c : tie.After-n) → length (take setWords (now (sets-of c))) ≡ setWords
+first-sets c = length-take-le setWords (now (sets-of c)) (passed c .sets)
 
 first-coeffs : (c : tie.After-n) → length (take places (now (coeffs-of c))) ≡ places
 first-coeffs c = length-take-le places (now (coeffs-of c)) (passed c .coeffs)
@@ -72,7 +72,7 @@ decide-requires c κs =
     let at-first = at-second .before in
     let at-n = at-first .before .before in (
       pass-fits (passed at-n) (at-first .gate-bytes .ensures .0) (at-second .gate-bytes2 .ensures .0),
-      first-coeffs at-n ∙ sym (first-sets at-n),
+      pass-level (passed at-n) (at-first .gate-bytes .ensures .0) (at-second .gate-bytes2 .ensures .0),
     )
 
 returns : tie.Need-returns

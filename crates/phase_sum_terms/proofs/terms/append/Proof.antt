@@ -1,9 +1,13 @@
 -- `phase_sum_terms::terms::append` meets its contract. Two stores put the term behind those in use.
 -- Assumes nothing.
+use native.Mathlib.Omega.{arith}
 use borrow.Author.Needs.{needs}
 use denote.Ref.{now}
+use Rattle.phase_sum_meaning.specs.Room.{wordsEach}
+use Rattle.phase_sum_words.specs.Words.{setsIn}
 use Rattle.phase_sum_types.specs.Workspace.{setOf}
 use Rattle.phase_sum_types.proofs.Places.{stored-next}
+use Rattle.phase_sum_types.proofs.TwoWords.{inside}
 use Rattle.phase_sum_terms.proofs.terms.append.Statement.{statement}
 use Rattle.phase_sum_terms.proofs.terms.append.Tie as tie
 
@@ -27,8 +31,16 @@ returns c =
     let at-store = c .before .before in
     let start = at-store .before .before .before .before in
     let a = start .args in
+    let ws = now (a .sets) in
     rw (at-store .store .ensures)
-    (stored-next (a .count) (setOf (a .set)) (a .coeff) (now (a .sets)) (now (a .coeffs)) (start .pre .0) (start .pre .1))
+    (stored-next
+    (a .count)
+    (setOf (a .set))
+    (a .coeff)
+    (setsIn wordsEach ws)
+    (now (a .coeffs))
+    (inside ws (omega arith))
+    (start .pre .1))
 
 pub append-spec : {M : Type 1} → statement M
 append-spec =

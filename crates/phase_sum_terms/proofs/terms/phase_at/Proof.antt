@@ -5,12 +5,15 @@ use mathlib.Core.Path.{_≡_, _∙_}
 use Prim.Native.Nat.{_-_, _%_, _≤_}
 use native.Mathlib.Omega.{arith}
 use denote.Ref.{now}
+use Rattle.phase_sum_meaning.specs.Room.{wordsEach}
+use Rattle.phase_sum_words.specs.Words.{setsIn}
+use Rattle.phase_sum_types.proofs.TwoWords.{inside}
 use Rattle.phase_sum_types.proofs.Places.{phaseSoFar, phaseSoFar-none, phaseSoFar-more, phaseSoFar-constant}
 use Rattle.phase_sum_terms.proofs.terms.phase_at.Statement.{statement}
 use Rattle.phase_sum_terms.proofs.terms.phase_at.Tie as tie
 
 abbrev Inv-loop : tie.InvT-loop
-Inv-loop sets coeffs input count sum₀ i₀ sum i = (i ≤ count) × (sum ≡ phaseSoFar i sum₀ sets coeffs input % 8)
+Inv-loop sets coeffs input count sum₀ i₀ sum i = (i ≤ count) × (sum ≡ phaseSoFar i sum₀ (setsIn wordsEach sets) coeffs input % 8)
 
 abbrev μ-loop : tie.MeasureT-loop
 μ-loop sets coeffs input count sum₀ i₀ sum i = count - i
@@ -21,7 +24,7 @@ add-requires c κs = tt
 loop-holds : tie.Need-loop-holds Inv-loop μ-loop
 loop-holds c =
     let a = c .before .before .before .args in
-    (omega arith, omega (arith, phaseSoFar-none (c .add .result) (now (a .sets)) (now (a .coeffs)) (a .input)))
+    (omega arith, omega (arith, phaseSoFar-none (c .add .result) (setsIn wordsEach (now (a .sets))) (now (a .coeffs)) (a .input)))
 
 load-requires : tie.Need-load-requires Inv-loop μ-loop
 load-requires c κs = omega arith
@@ -46,10 +49,11 @@ loop-again c =
     let at-loop = c .before .before .before .before .before in
     let at-add = at-loop .before in
     let a = at-add .before .before .before .args in
-    let ss = now (a .sets) in
+    let ws = now (a .sets) in
+    let ss = setsIn wordsEach ws in
     let cs = now (a .coeffs) in
     let shared = rw (c .before .before .before .load .ensures) at (c .before .share .ensures) in
-    let step = phaseSoFar-more (at-loop .loop .i) (at-add .add .result) ss cs (a .input) (omega arith) (omega arith) in
+    let step = phaseSoFar-more (at-loop .loop .i) (at-add .add .result) ss cs (a .input) (inside ws (omega arith)) (omega arith) in
     (omega arith, omega arith)
 
 returns : tie.Need-returns Inv-loop μ-loop
@@ -60,7 +64,7 @@ returns c =
     let done : at-loop .loop .i ≡ a .phase .count = omega arith in
     at-loop .loop .inv .1
     ∙ rw (done, at-add .add .ensures)
-    (phaseSoFar-constant (a .phase .count) (a .phase .constant) (now (a .sets)) (now (a .coeffs)) (a .input))
+    (phaseSoFar-constant (a .phase .count) (a .phase .constant) (setsIn wordsEach (now (a .sets))) (now (a .coeffs)) (a .input))
 
 pub phase-at-spec : {M : Type 1} → statement M
 phase-at-spec =

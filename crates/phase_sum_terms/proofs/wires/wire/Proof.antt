@@ -1,8 +1,11 @@
 -- `phase_sum_terms::wires::wire` meets its contract.
 -- Assumes nothing.
 use denote.Ref.{now}
-use Rattle.phase_sum_types.proofs.WireLaws.{zip-at}
 use borrow.Author.Needs.{needs}
+use Rattle.phase_sum_meaning.specs.Room.{wordsEach}
+use Rattle.phase_sum_words.specs.Words.{setsIn}
+use Rattle.phase_sum_types.proofs.TwoWords.{inside}
+use Rattle.phase_sum_types.proofs.WireLaws.{zip-at}
 use Rattle.phase_sum_terms.proofs.wires.wire.Statement.{statement}
 use Rattle.phase_sum_terms.proofs.wires.wire.Tie as tie
 
@@ -17,7 +20,9 @@ returns c =
     let at-load = c .before in
     let at-start = at-load .before .before .before in
     let a = at-start .args in
-    rw (at-load .load .ensures) (zip-at (now (a .ws)) (now (a .fs)) (a .q) (at-start .pre .0) (at-start .pre .1))
+    let ws = now (a .ws) in
+    rw (at-load .load .ensures)
+    (zip-at (setsIn wordsEach ws) (now (a .fs)) (a .q) (inside ws (at-start .pre .0)) (at-start .pre .1))
 
 pub wire-spec : {M : Type 1} → statement M
 wire-spec = tie.close (tie.spec load-requires shared-slice-read-t6 returns)

@@ -1,0 +1,2 @@
+-- Laws behind the sort by low words.
+pub mod Lows
