@@ -27,6 +27,8 @@ from classes import BOTH, CLASSES, kind_class
 
 ROOT = os.path.join(os.path.dirname(os.path.abspath(__file__)), "..")
 SEED = 20261115
+# the words and the bytes that a comparison needs
+NEEDED = (6400, 3200)
 # the line that each program prints for its input
 PROGRAM_LINES = {"compare": ref.run_program, "compare_small": ref.run_small_program}
 
@@ -198,13 +200,18 @@ def compare_row(check, numbers, first, second, call="compare"):
         return refusal.number
     n, gates, others = ref.read_pair(a, b, *numbers[:2])
     if call == "pick":
-        check.see(f"pick: {choice(gates, others, answer.split()[0], events)}")
+        which = answer.split()[0]
+        check.see(f"pick: {choice(gates, others, which, events)}")
+        if n + pairs.h_gates(gates + others) > 64:
+            check.see(f"pick: {which}, more than 64 variables")
         if ending(events) == "equal":
             see_kinds(check, gates, others)
         return None
     fields = answer.split(",")[0].split()
     see_events(check, n, gates, others, fields, events)
-    check.see(f"compare: workspaces of {'3136' if numbers[:2] == (3136, 3136) else 'more'} places")
+    check.see(f"compare: workspaces of {'6400 words and 3200 bytes' if numbers[:2] == NEEDED else 'more places'}")
+    if numbers[0] % 2:
+        check.see("compare: an odd number of words")
     if numbers[2] == 0:
         check.see("compare: workspaces of 0 at the start")
     if len(a) > len(ref.record(n, gates)):
@@ -247,16 +254,37 @@ def see_kinds(check, gates, others):
             check.see(kind_class(kind))
 
 
+def placed(event):
+    """An event as the classes name it, a step at a variable by where that stands; None where it stands below 63."""
+    step, _, variable = event.partition(" variable ")
+    if not variable:
+        return event
+    v, last = int(variable), 127 if step == "pin at" else 126
+    if v < 63:
+        return None
+    return f"{step} variable {v if v < 65 or v >= last else f'65 to {last - 1}'}"
+
+
+def high_words_alone(terms):
+    """Do some sets differ above variable 64 alone?"""
+    return len({s % 2**64 for s in terms}) < len(terms)
+
+
 def see_events(check, n, gates, others, fields, events):
     """The classes of an accepted comparison."""
     verdict = named(fields)
-    names = {verdict, *events}
+    names = {verdict, *filter(None, map(placed, events))}
     h = pairs.h_gates(gates + others)
+    many = n + h > 64
     no_t = ref.t_gates(gates) + ref.t_gates(others) == 0
     shapes = {
         "more than 13 pins": int(fields[3]) > 13,
-        "16 qubits, 48 H gates": (n, h) == (16, 48),
-        "64 variables": n + h == 64,
+        "16 qubits, 112 H gates": (n, h) == (16, 112),
+        "1 qubit, 127 H gates": (n, h) == (1, 127),
+        f"{n + h} variables": n + h in (64, 65, 127, 128),
+        f"more than 64 variables: {fields[0]}": many,
+        "more than 64 variables, 512 gates in both lists": many and len(gates) == len(others) == 512,
+        "sets that differ in the high word alone": many and high_words_alone(ref.built(n, gates, others).terms),
         "512 gates on 1 qubit": n == 1 and len(gates) == 512,
         "512 gates on 16 qubits": n == 16 and len(gates) == 512,
         "512 gates in both lists": len(gates) == len(others) == 512,
@@ -279,16 +307,19 @@ def check_columns(check, n, first, second, fields):
         fail(f"{' '.join(fields)} is not what the columns say: {list_text(n, first)} and {list_text(n, second)}")
     if fields[0] != "undecided":
         check.see(f"compare: dense columns: {named(fields)}")
+        if n + pairs.h_gates(first + second) > 64:
+            check.see("compare: more than 64 variables: dense columns")
 
 
 def is_small(n, first, second):
-    return n <= 6 and len(first) + len(second) <= 60 and pairs.h_gates(first + second) <= 24
+    """Few enough qubits, and gates unless the qubits are two or one, for all columns."""
+    return n <= 2 or n <= 6 and len(first) + len(second) <= 60 and pairs.h_gates(first + second) <= 24
 
 
 def workspace_numbers(rng):
     """Lengths of both workspaces, mostly enough, and what they hold before."""
-    enough = [(3136, 3136), (3200, 3200), (3136, 3200), (3137, 3136)]
-    short = [(3135, 3136), (3136, 3135), (0, 0), (3135, 3135), (rng.randrange(3136), 3136), (3136, rng.randrange(3136))]
+    enough = [NEEDED, (6464, 3264), (6400, 3264), (6401, 3200), (6403, 3201)]
+    short = [(6399, 3200), (6400, 3199), (0, 0), (6399, 3199), (3136, 3136), (rng.randrange(6400), 3200), (6400, rng.randrange(3200))]
     return (*rng.choice(enough if rng.random() < 0.95 else short), rng.choice((0, rng.randrange(1, 10**17))))
 
 
@@ -321,8 +352,11 @@ def random_pair_row(check, rng, call, families=pairs.FAMILIES):
     fields = compare_row(check, workspace_numbers(rng), a, b, call)
     if call == "compare" and luck >= 0.18 and isinstance(fields, list) and is_small(n, first, second):
         check_columns(check, n, first, second, fields)
-    if luck >= 0.18 and fields == 9 and (n, pairs.h_gates(first + second)) == (16, 49):
-        check.see("compare: 16 qubits, 49 H gates")
+    h = pairs.h_gates(first + second)
+    if luck >= 0.18 and fields == 9 and n + h == 129:
+        check.see("compare: 129 variables")
+        if n in (1, 16):
+            check.see(f"compare: {'1 qubit' if n == 1 else '16 qubits'}, {h} H gates")
 
 
 # Small blocks.
@@ -356,7 +390,7 @@ def see_small(check, n, gates, others, fields):
     shapes = {
         f"no T gate: {verdict}": ref.t_gates(gates) + ref.t_gates(others) == 0,
         "60 H gates": h == 60,
-        "64 variables": n + h == 64,
+        "66 variables": n + h == 66,
         "512 gates in both lists": len(gates) == len(others) == 512,
         "turned, 512 gates in both lists": len(gates) == len(others) == 512 and fields[0] == "turned",
     }
@@ -403,14 +437,15 @@ def random_small_row(check, rng, family):
     numbers = number_numbers(rng)
     rows = len(check.rows)
     if isinstance(dense_row(check, numbers, a, b), list):
-        compare_row(check, (3136, 3136, numbers[1]), a, b)
+        compare_row(check, (*NEEDED, numbers[1]), a, b)
         check.both.append((rows, rows + 1))
 
 
 def fixed_small_rows(check):
     """Small blocks at their limits: qubits, H gates, numbers, and what these hold."""
     equal = ["equal", "0", "0"]
-    for n, h, want in ((4, 60, equal), (5, 60, 9), (3, 60, equal), (3, 61, 14), (7, 57, 14), (7, 58, 9), (6, 58, equal), (6, 59, 9)):
+    nine = ((1, 128, 9), (6, 123, 9), (7, 122, 9), (16, 113, 9))
+    for n, h, want in ((1, 60, equal), (6, 60, equal), (1, 61, 14), (6, 61, 14), (6, 122, 14), (7, 60, 14), (7, 121, 14), *nine):
         for cut in (0, 1, h // 2, h):
             lists = (ref.record(n, pairs.one(ref.H, *[n - 1] * count)) for count in (cut, h - cut))
             hold(dense_row(check, (512, 3), *lists), want)
@@ -520,7 +555,7 @@ def see_joined(check, call, first, second, record):
         "no gates": not joined,
         "no gates in the first list": not gates and others,
         "no gates in the second list": gates and not others,
-        "more H gates than a comparison takes": k + h > 64,
+        "more H gates than a comparison takes": k + h > 128,
     }
     names = ["accepted", *(name for name, yes in shapes.items() if yes), *{f"kind {kind} second" for kind, _, _ in others}]
     if k <= 6 and len(joined) <= 40 and h <= 12:
@@ -555,12 +590,12 @@ def random_join_row(check, rng, call):
 def inverse_rows(check, rng):
     """A pair, and the first list joined in time with the inverse of the second, against nothing, as rows of both comparisons."""
     n, first, second = rng.choice((*pairs.FAMILIES, pairs.turned, pairs.small_open))(rng)
-    if len(first + second) > 512 or n + ref.h_gates(first + second) > 64:
+    if len(first + second) > 512 or n + ref.h_gates(first + second) > 128:
         return
     a, b, size, seed = lent(rng, n, first), lent(rng, n, second), 5 + 3 * len(second), rng.choice((0, 7))
     inverse = check.simple("inverse", numbers=(size,), first=b, second=bytes(size))
     joined = join_row(check, "join_in_time", (2048, seed), a, buffer_of(inverse))
-    calls = [(compare_row, (3136, 3136, seed)), (dense_row, (512, seed))]
+    calls = [(compare_row, (*NEEDED, seed)), (dense_row, (512, seed))]
     for one_row, numbers in calls[: 2 if n <= 6 and ref.h_gates(first + second) <= 60 else 1]:
         check.inverses.append(len(check.rows))
         one_row(check, numbers, a, b)
@@ -699,12 +734,12 @@ def bad_rows(check, rng):
 
 
 def full_records():
-    """Two records of 512 gates: on 1 qubit, on 16 qubits with 48 H gates, and on 16 qubits with 512 gates on two."""
-    h = pairs.one(ref.H, *range(16))
-    rest = [(ref.CX, q % 16, (q + 5) % 16) for q in range(512 - 24)]
+    """Two records of 512 gates: on 1 qubit, on 16 qubits with 112 H gates, and on 16 qubits with 512 gates on two."""
+    h = pairs.one(ref.H, *(q % 16 for q in range(56)))
+    rest = [(ref.CX, q % 16, (q + 5) % 16) for q in range(512 - 56)]
     return (
         (1, pairs.one(ref.T, *[0] * 512), pairs.one(ref.TI, *[0] * 512), "equal 0 0 0 0 0 0 0"),
-        (16, h + h[:8] + rest, h + h[:8] + rest, "equal 0 0 16 16 0 8 0"),
+        (16, h + rest, h + rest, "equal 0 0 16 16 0 40 0"),
         (16, [(ref.SWAP, 0, 15)] * 512, [(ref.CZ, 15, 0)] * 512, "equal 0 0 0 0 0 0 0"),
     )
 
@@ -729,7 +764,8 @@ def fixed_inputs(check):
     check.run_program(b"", "refused 1")
     for n, first, second, line in full_records():
         long_inputs(check, ref.record(n, first) + ref.record(n, second), line)
-    for n, h, line in ((16, 48, "different 0 0 16 0 0 16 0"), (16, 49, "refused 9"), (1, 64, "refused 9")):
+    taken = ((16, 112, "different 0 0 16 0 0 48 0"), (1, 127, "different 0 0 1 0 0 63 0"))
+    for n, h, line in (*taken, (16, 113, "refused 9"), (1, 128, "refused 9")):
         data = ref.record(n, pairs.one(ref.H, *(q % n for q in range(h))))
         check.run_program(data + ref.record(n, []), line)
     check.run_program(ref.record(17, []) + ref.record(17, []), "refused 3")
@@ -754,7 +790,8 @@ def fixed_small_inputs(check):
     name = "compare_small"
     for (n, first, second, _), line in zip(full_records(), ("equal 0 0", "refused 14", "refused 14")):
         long_inputs(check, ref.record(n, first) + ref.record(n, second), line, name)
-    for n, h, line in ((4, 60, "equal 0 0"), (3, 61, "refused 14"), (4, 61, "refused 9"), (6, 58, "equal 0 0"), (7, 0, "refused 14")):
+    taken = ((4, 60, "equal 0 0"), (6, 60, "equal 0 0"))
+    for n, h, line in (*taken, (3, 61, "refused 14"), (6, 61, "refused 14"), (6, 122, "refused 14"), (6, 123, "refused 9"), (7, 0, "refused 14")):
         for cut in (0, h // 3, h):
             data = b"".join(ref.record(n, pairs.one(ref.H, *[n - 1] * count)) for count in (cut, h - cut))
             check.run_program(data, line, name)
@@ -769,21 +806,27 @@ def fixed_small_inputs(check):
 def fixed_rows(check):
     """The calls at their limits."""
     for n, first, second, line in full_records():
-        for numbers in ((3136, 3136, 1), (3200, 3200, 0)):
+        for numbers in ((*NEEDED, 1), (6464, 3264, 0)):
             fields = compare_row(check, numbers, ref.record(n, first), ref.record(n, second))
             hold(" ".join(fields), line)
             compare_row(check, numbers, list_text(n, first), "=", "pick")
-        compare_row(check, (3136, 3136, 1), ref.record(n, first), ref.record(n, second), "pick")
+        compare_row(check, (*NEEDED, 1), ref.record(n, first), ref.record(n, second), "pick")
         check.simple("inverse", numbers=(1541,), first=ref.record(n, first), second=bytes(1541))
         check.simple("inverse", numbers=(1540,), first=ref.record(n, first), second=bytes(1541))
         for kind in (ref.X, 11):
             for size, g in ((1544, 512), (1541, 511)):
                 words = check.simple("add", numbers=(size, kind, 0, 255), second=ref.record(n, first[:g]) + bytes(3))
                 check.see(f"add: at {g} gates, " + " ".join(words[:-1]))
-    for words in (0, 1, 3135, 3136, 3137):
-        for places in (0, 1, 3135, 3136, 3137):
+    for words in (0, 1, 3136, 3200, 6399, 6400, 6401):
+        for places in (0, 1, 3136, 3199, 3200, 3201):
             for call in ("compare", "pick"):
-                compare_row(check, (words, places, 12345), "1:t0 t0", "1:s0", call)
+                refusal = compare_row(check, (words, places, 12345), "1:t0 t0", "1:s0", call)
+                hold(refusal == 10, words < 6400 or places < 3200)
+    for n in range(1, 17):
+        for h in (128 - n, 129 - n):
+            for cut in (0, h // 2, h):
+                lists = (ref.record(n, pairs.one(ref.H, *(q % n for q in range(count)))) for count in (cut, h - cut))
+                hold(compare_row(check, (*NEEDED, n), *lists) == 9, n + h > 128)
 
 
 def refused_rows(check, data, number, gate=""):
@@ -797,9 +840,9 @@ def refused_rows(check, data, number, gate=""):
         hold(" ".join(words), f"refused {number}{gate}")
     hold(check.simple("gates", first=data), ["gates", "-"])
     for first, second, which in ((data, good, "first"), (good, data, "second")):
-        compare_row(check, (3136, 3136, 1), first, second)
+        compare_row(check, (*NEEDED, 1), first, second)
         hold(check.lines[-1].split(": ")[1].split(",")[0], f"refused {number} {which}{gate}")
-        compare_row(check, (3136, 3136, 1), first, second, "pick")
+        compare_row(check, (*NEEDED, 1), first, second, "pick")
         dense_row(check, (512, 3), first, second)
         hold(check.lines[-1].split(": ")[1].split(",")[0], f"refused {number} {which}{gate}")
         for call in call_rows.JOINS:
@@ -883,6 +926,8 @@ def main():
         n, first, second = rng.choice(pairs.FAMILIES)(rng)
         data = ref.record(n, first) + ref.record(n, second)
         check.run_program(damaged_input(rng, data) if i % 3 == 0 else data)
+        if i % 3 and 64 < n + pairs.h_gates(first + second) <= 128:
+            check.see("program compare: more than 64 variables")
     blocks = 600 * times
     for i in range(blocks):
         n, first, second = rng.choice((pairs.FAMILIES, [pairs.small_turned], *[pairs.SMALL[:-1]] * 6)[i % 8])(rng)

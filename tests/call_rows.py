@@ -7,7 +7,7 @@ from functools import cache
 import reference as ref
 
 LETTERS = "xyzsrtuhckw"
-MOST_LINE, MOST_BYTES, MOST_PLACES, MOST_NUMBERS = 8192, 2048, 3200, 520
+MOST_LINE, MOST_BYTES, MOST_WORDS, MOST_PLACES, MOST_NUMBERS = 8192, 2048, 6464, 3264, 520
 
 
 class Bad(Exception):
@@ -96,8 +96,8 @@ def left(accepted, seed, used, most):
 
 def workspaces(accepted, seed):
     """What both workspaces of a pair hold afterwards."""
-    both = left(accepted, seed, ref.PLACES, MOST_PLACES)
-    return f", sets {both}, coeffs {both}"
+    sets, coeffs = left(accepted, seed, ref.WORDS, MOST_WORDS), left(accepted, seed, ref.PLACES, MOST_PLACES)
+    return f", sets {sets}, coeffs {coeffs}"
 
 
 def lent_numbers(accepted, seed):
@@ -169,7 +169,7 @@ def both_of(first, second):
 
 
 def pair_of(numbers, first, second):
-    words, places, seed = numbers_of(numbers, [MOST_PLACES + 1, MOST_PLACES + 1, ANY])
+    words, places, seed = numbers_of(numbers, [MOST_WORDS + 1, MOST_PLACES + 1, ANY])
     return *both_of(first, second), words, places, seed
 
 

@@ -6,6 +6,12 @@ from call_rows import JOINS, PROGRAMS
 TURNED = tuple(f"turned {j}" for j in range(1, 8))
 # several inputs of weight 3 differ: what a later one has beside the one that is shown
 LATER = ("highest qubit", "highest qubit, the middle one lower", "middle qubit", "middle qubit, the lowest one lower", "lowest qubit")
+# a step at a variable from 63 on, the last of a set's low word; a join also by the variable that it replaces. The last variable of all is pinned, where
+# no pin is blocked: other steps reach the one before it.
+STEPS = (
+    *(f"pin at variable {place}" for place in ("63", "64", "65 to 126", "127")),
+    *(f"{step} variable {place}" for step in ("sum at", "turn at", "join at", "join for", "join blocked at") for place in ("63", "64", "65 to 125", "126")),
+)
 EVENTS = (
     "pin, constant 0",
     "pin, constant 1",
@@ -28,9 +34,15 @@ EVENTS = (
 )
 SHAPES = (
     "more than 13 pins",
-    "16 qubits, 48 H gates",
-    "16 qubits, 49 H gates",
-    "64 variables",
+    "16 qubits, 112 H gates",
+    "16 qubits, 113 H gates",
+    "1 qubit, 127 H gates",
+    "1 qubit, 128 H gates",
+    *(f"{variables} variables" for variables in (64, 65, 127, 128, 129)),
+    *(f"more than 64 variables: {verdict}" for verdict in ("equal", "different", "undecided", "turned")),
+    "more than 64 variables, 512 gates in both lists",
+    "more than 64 variables: dense columns",
+    "sets that differ in the high word alone",
     "512 gates on 1 qubit",
     "512 gates on 16 qubits",
     "512 gates in both lists",
@@ -41,13 +53,14 @@ SHAPES = (
     "difference of weight 3 after a pin",
     "one slice given twice",
     "bytes behind a record",
-    "workspaces of 3136 places",
+    "workspaces of 6400 words and 3200 bytes",
     "workspaces of more places",
+    "an odd number of words",
     "workspaces of 0 at the start",
     *(f"dense columns: {verdict}" for verdict in ("equal", "different", *TURNED)),
 )
 # random_pairs.py's, by name: one that is no longer drawn from is missed
-FAMILIES = ("mixed", "diagonal", "triples", "wide", "many_h", "long", "blocked", "few_gates", "equal", "turned")
+FAMILIES = ("mixed", "diagonal", "triples", "wide", "many_h", "tall", "chain", "long", "blocked", "few_gates", "equal", "turned")
 PICKS = (
     "first, fewer T gates",
     "second, fewer T gates",
@@ -58,6 +71,8 @@ PICKS = (
     "first, undecided",
     "first, turned",
     "first, turned, though the second has fewer gates",
+    "first, more than 64 variables",
+    "second, more than 64 variables",
     *(f"first, {verdict}, though the second has fewer T gates" for verdict in TURNED),
 )
 SMALL_FAMILIES = ("small_equal", "small_turned", "small_changed", "small_unrelated", "small_phase", "small_open", "small_many_h", "small_long")
@@ -66,7 +81,7 @@ SMALL = (
     *(f"{n} qubits" for n in range(1, 7)),
     *(f"no T gate: {verdict}" for verdict in ("equal", "different", *TURNED)),
     "60 H gates",
-    "64 variables",
+    "66 variables",
     "512 gates in both lists",
     "turned, 512 gates in both lists",
     "one slice given twice",
@@ -178,7 +193,7 @@ def kind_class(kind):
 CLASSES = (
     *(f"{call}: {verdict}" for call in ("compare", "program compare") for verdict in ("equal", "different", "undecided", *TURNED)),
     *(f"{call}: {verdict}" for call in ("dense", "program compare_small") for verdict in ("equal", "different", *TURNED)),
-    *(f"compare: {event}" for event in EVENTS),
+    *(f"compare: {event}" for event in (*EVENTS, *STEPS)),
     *(f"compare: {shape}" for shape in SHAPES),
     *(f"{call}: family {name}" for call in ("compare", "pick") for name in FAMILIES),
     "pick: family worth",
@@ -197,5 +212,6 @@ CLASSES = (
     *(f"{call}: refused at {place}" for call, places in BAD_GATES.items() for place in places),
     *(f"{call}: {fault}" for call in ("compare", "pick", "dense", *JOINS) for fault in BAD_LISTS),
     *(f"program {name}: {size} bytes" for name in ("compare", "compare_small") for size in (3082, 3083, 1000000)),
+    "program compare: more than 64 variables",
     *(f"rows of {name}" for name in PROGRAMS),
 )

@@ -136,16 +136,27 @@ ORDER = (
     ("CX from 0 to 0", b"QC\x02\x01\x00\x08\x00\x00", 6),
     ("a second gate that is none", b"QC\x01\x02\x00\x07\x01\xff\x0b\x00\xff", 6),
 )
+# the limit of compare, 9: 128 variables, the qubits and the H gates of both lists
+VARIABLES = (
+    ("112 H gates on 16 qubits first", record(16, ["H 0"] * 112), record(16, []), "equal 0 0 1 1 0 55 0"),
+    ("112 H gates on 16 qubits second", record(16, []), record(16, ["H 15"] * 112), "equal 0 0 1 1 0 55 0"),
+    ("56 H gates on 16 qubits in both", record(16, ["H 7"] * 56), record(16, ["H 7"] * 56), "equal 0 0 1 1 0 55 0"),
+    ("113 H gates on 16 qubits second", record(16, []), record(16, ["H 0"] * 113), "refused 9"),
+    ("57 H gates on 16 qubits and 56", record(16, ["H 7"] * 57), record(16, ["H 7"] * 56), "refused 9"),
+    ("127 H gates on 1 qubit", record(1, ["H 0"] * 127), record(1, []), "different 0 0 1 0 0 63 0"),
+    ("128 H gates on 1 qubit", record(1, ["H 0"] * 64), record(1, ["H 0"] * 64), "refused 9"),
+)
 # the limits of compare_small, 14: 6 qubits and 60 H gates in both lists; 9 before it, and 12 before both
 BLOCKS = (
     ("6 qubits", record(6, ["CZ 4 5"]), record(6, []), "different 0 48"),
     ("7 qubits", record(7, []), record(7, []), "refused 14"),
-    ("60 H gates first", record(4, ["H 3"] * 60), record(4, []), "equal 0 0"),
+    ("60 H gates first", record(6, ["H 5"] * 60), record(6, []), "equal 0 0"),
     ("60 H gates in both", record(3, ["H 2"] * 29), record(3, ["H 2"] * 31), "equal 0 0"),
     ("61 H gates first", record(3, ["H 0"] * 61), record(3, []), "refused 14"),
     ("61 H gates in both", record(3, ["H 2"] * 30), record(3, ["H 2"] * 31), "refused 14"),
     ("61 H gates second", record(3, []), record(3, ["H 0"] * 61), "refused 14"),
-    ("9 before 14", record(4, ["H 0"] * 61), record(4, []), "refused 9"),
+    ("122 H gates on 6 qubits", record(6, ["H 0"] * 122), record(6, []), "refused 14"),
+    ("9 before 14", record(6, ["H 0"] * 123), record(6, []), "refused 9"),
     ("8 before 14", record(7, []), record(6, []), "refused 8"),
     ("12 before 14", record(7, []), record(7, []) + b"\0", "refused 12"),
     ("13 before 14", record(7, []), record(7, ["T 0"])[:-1], "refused 13"),
@@ -170,9 +181,9 @@ class Door:
         for first, second, line, small in ROWS:
             yield first, second, line if self is COMPARE else small
 
-    def blocks(self):
-        """(label, first, second, line) at the limits that compare does not have."""
-        return () if self is COMPARE else BLOCKS
+    def limits(self):
+        """(label, first, second, line) at the limits that the other door does not have."""
+        return VARIABLES if self is COMPARE else BLOCKS
 
 
 COMPARE, SMALL = Door("compare", 7), Door("compare_small", 2)
@@ -195,7 +206,7 @@ def border_cases(door):
     """(label, first file, second file, line): what the border between two files and the end of each decide."""
     for first, second, line in door.rows():
         yield f"row {line}", first, second, line
-    yield from door.blocks()
+    yield from door.limits()
     yield "empty first, two records in the second", b"", EXAMPLE + NOTHING, "refused 1"
     yield "two records in the first, empty second", EXAMPLE + NOTHING, b"", "refused 1"
     yield "both empty", b"", b"", "refused 1"
@@ -217,9 +228,9 @@ def border_cases(door):
     yield "bytes behind both", EXAMPLE + b"Q", NOTHING + b"C", "refused 12"
     yield "a record behind the first", EXAMPLE + NOTHING, NOTHING, "refused 12"
     yield "12 before 8", record(2, []) + b"\0", NOTHING, "refused 12"
-    yield "12 before 9", record(16, ["H 0"] * 49) + b"\0", record(16, []), "refused 12"
+    yield "12 before 9", record(16, ["H 0"] * 113) + b"\0", record(16, []), "refused 12"
     yield "8", record(2, []), NOTHING, "refused 8"
-    yield "9", record(16, ["H 0"] * 49), record(16, []), "refused 9"
+    yield "9", record(16, ["H 0"] * 113), record(16, []), "refused 9"
 
 
 def long_cases():
@@ -240,7 +251,7 @@ def stream_cases(door):
     """(label, standard input, line)."""
     for first, second, line in door.rows():
         yield f"row {line}", first + second, line
-    for label, first, second, line in door.blocks():
+    for label, first, second, line in door.limits():
         yield label, first + second, line
     yield "nothing", b"", "refused 1"
     yield "one record", EXAMPLE, "refused 1"

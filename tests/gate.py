@@ -140,15 +140,15 @@ def try_rows(folder):
 
 def try_row_faults(folder):
     """A row that is mistyped, wrong or lost."""
-    row = "01: H;compare;3136 3136 0;1:h0;1: => different 0 0 1 0 0 0 0\n"
+    row = "01: H;compare;6400 3200 0;1:h0;1: => different 0 0 1 0 0 0 0\n"
     gate = "check: second gate bad, 6;check;;51430102000000ff0001ff; => refused 6 gate 1\n"
     body = "check: body one byte short, 13;check;;51430101000000; => refused 13\n"
-    pair = "unknown kind;compare;3136 3136 0;5143010000;51430101000b00ff => refused 5 second gate 0\n"
+    pair = "unknown kind;compare;6400 3200 0;5143010000;51430101000b00ff => refused 5 second gate 0\n"
     small = "dense: different at 6 on 3;dense;512 22;3:k12;3: => different 0 6\n"
     short = "dense: 511 numbers;dense;511 9;1:t0;1:t0 => refused 10, numbers zero 0 kept 520\n"
-    turned = "x t x t, 3 times;compare;3136 3136 0;1:{x0 t0 x0 t0 *3};1: => turned 5 0 0 0 0 0 0\n"
+    turned = "x t x t, 3 times;compare;6400 3200 0;1:{x0 t0 x0 t0 *3};1: => turned 5 0 0 0 0 0 0\n"
     again = "dense: turned 3 times;dense;512 21;1:{x0 t0 x0 t0 *3};1: => turned 5 0\n"
-    picked = "turned 2: the first, z x and y;pick;3200 3200 177;1:z0 x0;1:y0 => first 51430102000200ff0000ff\n"
+    picked = "turned 2: the first, z x and y;pick;6464 3264 177;1:z0 x0;1:y0 => first 51430102000200ff0000ff\n"
     report = "report: verdict 3;read_report;;515603070000000101010000; => fields 3 7 0 1 1 1 0 0\n"
     for label, old, new in (
         ("a mistyped gate", row, row.replace(":h0", ":hh")),
@@ -244,7 +244,7 @@ def try_column_faults(folder):
         with Fault(folder, "tests/reference.py", old, new):
             status, lines = run_test(folder, "make_rows.py", "--check")
             trial(f"make_rows.py, columns with {label}", status != 0 and "the columns do not bear it out" in lines[-1], lines[-1:])
-    one, wide = ";compare;3136 3136 0;1:x0 t0 x0 t0;1:", ";compare;3136 3136 0;16:xf tf xf tf;16:"
+    one, wide = ";compare;6400 3200 0;1:x0 t0 x0 t0;1:", ";compare;6400 3200 0;16:xf tf xf tf;16:"
     for row in (one, wide):
         passes(f"make_rows.py, turned 7 by columns{row}", make_rows.held_to_columns, 1, row, "turned 7 0 0 0 0 0 0")
         trial(f"make_rows.py, held by columns{row}", make_rows.held_to_columns(1, row, "turned 7 0 0 0 0 0 0"))
@@ -252,16 +252,16 @@ def try_column_faults(folder):
             ends(f"make_rows.py, {answer} by columns{row}", make_rows.held_to_columns, 1, row, answer)
 
 
-def joins_alone(folder):
-    """A copy with the rows of joins and no others."""
+def rows_alone(folder, label, mark):
+    """A copy with the rows that have a mark and no others."""
     for name in ("tests", *(f"crates/{program}" for program in PROGRAMS)):
         shutil.copytree(os.path.join(ROOT, name), os.path.join(folder, name))
     path = os.path.join(folder, "tests", "rows.txt")
     with open(path, encoding="utf-8") as file:
-        rows = [line for line in file if ";join_in_" in line]
+        rows = [line for line in file if mark in line and not line.startswith("#")]
     put(folder, "tests/rows.txt", "".join(rows))
     got = run_test(folder, "make_rows.py"), run_test(folder, "make_rows.py", "--check")
-    trial("make_rows.py, joins alone", all(status == 0 for status, _ in got), got)
+    trial(f"make_rows.py, {label} alone", rows and all(status == 0 for status, _ in got), got)
 
 
 def try_join_rows(folder):
@@ -365,8 +365,93 @@ def try_product_faults(folder):
             ends(f"make_rows.py, {other} by columns{row}", make_rows.held_as_joined, 1, row, answer(other))
 
 
+def try_wide_rows(folder):
+    """A row of the limits of sets of two words that is wrong."""
+    left, kept = "sets zero 6400 kept 64, coeffs zero 3200 kept 64", "sets zero 0 kept 6464, coeffs zero 0 kept 3264"
+    most = f"wide: n = 1, 127 h in the first list;compare;6400 3200 201;1:{{h0 *127}};1: => different 0 0 1 0 0 63 0, {left}\n"
+    odd = f"wide: 6401 words, 3200 bytes;compare;6401 3200 6401;2:{{h0 *126}};2: => equal 0 0 1 1 0 62 0, {left}\n"
+    short = f"wide: 6399 words, 3200 bytes;compare;6399 3200 205;2:{{h0 *126}};2: => refused 10, {kept}\n"
+    old = f"wide: 3136 words, 3136 bytes, picked;pick;3136 3136 205;2:{{h0 *126}};2: => empty -, {kept}\n"
+    step = "wide: turn at 126, C = 1;compare;6464 3264 207;2:{h0 *125}s0 h0;2: => different 0 0 1 0 1 62 0\n"
+    for label, old, new in (
+        ("an H gate more", most, most.replace("*127", "*128")),
+        ("127 H gates refused", most, most.replace("different 0 0 1 0 0 63 0", "refused 9")),
+        ("a word not zero", odd, odd.replace("zero 6400", "zero 6399")),
+        ("half of the words zero", odd, odd.replace("zero 6400", "zero 3200")),
+        ("as many words zero as bytes", odd, odd.replace("sets zero 6400 kept 64", "sets zero 3200 kept 3264")),
+        ("the odd word not kept", odd, odd.replace("6400 kept 64", "6400 kept 63")),
+        ("the odd word zero", odd, odd.replace("zero 6400 kept 64", "zero 6401 kept 63")),
+        ("a byte not zero", odd, odd.replace("zero 3200", "zero 3199")),
+        ("a byte not kept", odd, odd.replace("3200 kept 64", "3200 kept 63")),
+        ("a word less lent", odd, odd.replace(";6401 3200 6401;", ";6399 3200 6401;")),
+        ("a byte less lent", odd, odd.replace(";6401 3200 6401;", ";6401 3199 6401;")),
+        ("6399 words taken", short, short.replace("refused 10", "equal 0 0 1 1 0 62 0")),
+        ("a word changed by a refused call", short, short.replace("kept 6464", "kept 6463")),
+        ("the second list picked with 3136 places", old, old.replace("empty -", "second 5143020000")),
+        ("a turn less", step, step.replace("0 1 62 0", "0 0 62 1")),
+        ("a sum for a turn", step, step.replace("1 0 1 62 0", "1 1 0 62 0")),
+    ):
+        with Fault(folder, "tests/rows.txt", old, new):
+            trial(f"make_rows.py, sets of two words, {label}", run_test(folder, "make_rows.py", "--check")[0] != 0)
+
+
+def try_wide_faults(folder):
+    """An independent implementation whose limits are others, or that loses the high word of a set somewhere."""
+    limits = "MOST_VARIABLES, PLACES, WORDS = 128, 3200, 6400"
+    nine, ten = "n + h_gates(first + second) > MOST_VARIABLES", "    if words < WORDS or places < PLACES:\n        raise Refused(10)\n"
+    pair, merged = "    pair = read_lists(first, second)\n", "            c = (self.terms.get(mask, 0) + coefficient) % 8\n"
+    for label, old, new in (
+        ("64 variables at most", limits, limits.replace("128", "64")),
+        ("127 variables at most", limits, limits.replace("128", "127")),
+        ("129 variables at most", limits, limits.replace("128", "129")),
+        ("6399 words enough", limits, limits.replace("6400", "6399")),
+        ("6401 words wanted", limits, limits.replace("6400", "6401")),
+        ("6402 words wanted", limits, limits.replace("6400", "6402")),
+        ("one word a set", limits, limits.replace("6400", "3200")),
+        ("3136 places enough", limits, limits.replace("3200, 6400", "3136, 3136")),
+        ("3199 bytes enough", limits, limits.replace("3200", "3199")),
+        ("3201 bytes wanted", limits, limits.replace("3200", "3201")),
+        ("as many bytes wanted as words", limits, limits.replace("3200", "6400")),
+        ("the first list's H gates alone", nine, nine.replace("first + second", "first")),
+        ("the second list's H gates alone", nine, nine.replace("first + second", "second")),
+        ("no qubits counted", nine, nine.replace("n + ", "")),
+        ("10 for the words alone", ten, ten.replace(" or places < PLACES", "")),
+        ("10 for the bytes alone", ten, ten.replace("words < WORDS or ", "")),
+        ("10 before 9", pair + ten, ten + pair),
+        ("sets merged by their low words", merged, f"            mask %= 2**64\n{merged}"),
+        ("sets merged by their high words", merged, f"            mask = mask >> 64 << 64 or mask\n{merged}"),
+        ("no variable of the high word pinned or joined", "for v in s.live if mask >> v", "for v in s.live if mask % 2**64 >> v"),
+        ("the high word's variables before the low word's", "min(held)", "min(held, key=lambda v: (v < 64, v))"),
+        ("the last variable ready first", "for y in s.live if s.ready(y)", "for y in reversed(s.live) if s.ready(y)"),
+        ("variables of the high word always ready", "self.terms.items() if s >> y & 1)", "self.terms.items() if s % 2**64 >> y & 1)"),
+        ("no term of the high word in C and L", "            if s >> y & 1:\n", "            if s % 2**64 >> y & 1:\n"),
+        ("an L of the low word", "linear ^= s ^ 1 << y", "linear ^= (s ^ 1 << y) % 2**64"),
+        ("an L of the high word", "linear ^= s ^ 1 << y", "linear ^= (s ^ 1 << y) >> 64 << 64"),
+        ("no variable of the high word taken out", "list(self.terms) if s >> v & 1]", "list(self.terms) if s % 2**64 >> v & 1]"),
+        ("no variable of the high word replaced in a wire", "if w[0] >> z & 1:", "if w[0] % 2**64 >> z & 1:"),
+        ("a wire replaced by a low word", "w[0] ^= 1 << z ^ mask", "w[0] ^= (1 << z ^ mask) % 2**64"),
+        ("a term replaced by a low word", "self.put(c, s ^ 1 << z ^ mask, bit)", "self.put(c, s ^ 1 << z ^ mask % 2**64, bit)"),
+    ):
+        try_fault(folder, "reference.py", f"{label}, sets of two words", old, new)
+    words, places = "left(accepted, seed, ref.WORDS, MOST_WORDS)", "left(accepted, seed, ref.PLACES, MOST_PLACES)"
+    for label, old, new in (
+        ("half of the words zero", words, words.replace("ref.WORDS", "ref.WORDS // 2")),
+        ("a word more zero", words, words.replace("ref.WORDS", "ref.WORDS + 1")),
+        ("a byte less zero", places, places.replace("ref.PLACES", "ref.PLACES - 1")),
+        ("as many words as bytes", words, places),
+        ("as many bytes as words", places, words),
+        ("sets and coefficients exchanged", f"{words}, {places}", f"{places}, {words}"),
+        ("workspaces zero after a refusal", "refused(refusal) + workspaces(False, seed)", "refused(refusal) + workspaces(True, seed)"),
+        ("workspaces zero after an empty pick", '"empty -" + workspaces(False, seed)', '"empty -" + workspaces(True, seed)'),
+        ("workspaces left after a verdict", "result)) + workspaces(True, seed)", "result)) + workspaces(False, seed)"),
+        ("a word less to lend", "[MOST_WORDS + 1, ", "[MOST_WORDS, "),
+        ("a byte less to lend", ", MOST_PLACES + 1, ANY]", ", MOST_PLACES, ANY]"),
+    ):
+        try_fault(folder, "call_rows.py", f"{label}, sets of two words", old, new)
+
+
 def try_search_faults(folder):
-    """The same of the search over inputs: its weights, their order, and the parities; those of whole words the other rows tell."""
+    """The same of the search over inputs: its weights, their order, and the parities; those of whole words the rows of the phase-sum layer tell."""
     weights, listed = "for weight in (1, 2, 3):", "sorted(sum(1 << q for q in chosen) for chosen in combinations(range(n), weight))"
     for label, old, new in (
         ("no input of weight 2", weights, "for weight in (1, 3):"),
@@ -379,10 +464,32 @@ def try_search_faults(folder):
         ("any shared variable for an odd number", "odd(s & x))) % 8", "s & x)) % 8"),
     ):
         try_fault(folder, "reference.py", label, old, new)
-    for label, new in (("32 bits", "bin(mask % 2**32)"), ("63 bits", "bin(mask % 2**63)")):
-        with Fault(folder, "tests/reference.py", "bin(mask)", new):
+
+
+def try_vector_faults(folder):
+    """Rows of the phase-sum layer by a reference, or a maker of rows, with a fault: parities of words, and sets that lose a word."""
+    merged = "            c = (self.terms.get(mask, 0) + coefficient) % 8\n"
+    for name, label, old, new in (
+        ("reference.py", "parities of 32 bits", "bin(mask)", "bin(mask % 2**32)"),
+        ("reference.py", "parities of 63 bits", "bin(mask)", "bin(mask % 2**63)"),
+        ("reference.py", "sets merged by their low words", merged, f"            mask %= 2**64\n{merged}"),
+        ("reference.py", "no variable of the high word taken out", "list(self.terms) if s >> v & 1]", "list(self.terms) if s % 2**64 >> v & 1]"),
+        ("reference.py", "no variable of the high word replaced in a wire", "if w[0] >> z & 1:", "if w[0] % 2**64 >> z & 1:"),
+        ("reference.py", "a term replaced by a low word", "self.put(c, s ^ 1 << z ^ mask, bit)", "self.put(c, s ^ 1 << z ^ mask % 2**64, bit)"),
+        ("phase_sum_rows.py", "terms in the order of their low words", "sorted(s.terms.items())", "sorted(s.terms.items(), key=lambda t: t[0] % 2**64)"),
+        ("phase_sum_rows.py", "the low words' order before the high words'", "sorted(s.terms.items())", "sorted(s.terms.items(), key=lambda t: words(t[0]))"),
+        ("phase_sum_rows.py", "the high word first", "return [mask % 2**64, mask >> 64]", "return [mask >> 64, mask % 2**64]"),
+        ("phase_sum_rows.py", "no high word", "return [mask % 2**64, mask >> 64]", "return [mask % 2**64, 0]"),
+        ("phase_sum_rows.py", "the lowest variable of the low word", "if mask >> v & 1), VARIABLES)", "if mask % 2**64 >> v & 1), VARIABLES)"),
+        ("phase_sum_rows.py", "sets compared by their low words", "int(a <= b)", "int(a % 2**64 <= b % 2**64)"),
+        ("phase_sum_rows.py", "sets the same by their low words", "int(a == b)", "int(a % 2**64 == b % 2**64)"),
+        ("phase_sum_rows.py", "an L of the low word", "linear ^= m ^ 1 << v", "linear ^= (m ^ 1 << v) % 2**64"),
+        ("phase_sum_rows.py", "odd terms of the low word", "both ^= m", "both ^= m % 2**64"),
+        ("phase_sum_rows.py", "a mask of the low word", "odd_mask |= m", "odd_mask |= m % 2**64"),
+    ):
+        with Fault(folder, f"tests/{name}", old, new):
             status, lines = run_test(folder, "phase_sum_rows.py", "--check")
-            trial(f"phase_sum_rows.py, a reference with parities of {label}", status != 0 and "is not what" in lines[-1], lines[-1:])
+            trial(f"phase_sum_rows.py, {name} with {label}", status != 0 and "is not what" in lines[-1], lines[-1:])
 
 
 def try_small_faults(folder):
@@ -503,9 +610,12 @@ def try_cross_check(folder):
         ("a failure at the end", "echo '0: good'; echo 'rows 1'; exit 1"),
     ):
         ends(f"cross-check, record_calls: {label}", one_row, text)
-    left = "sets zero 3136 kept 3200, coeffs zero 3136 kept 3200"
+    left = "sets zero 6400 kept 6464, coeffs zero 3200 kept 3264"
     lent = "numbers zero 512 kept 520"
     turn, t, none = "51430104000000ff0500ff0000ff0500ff", "51430101000500ff", " 0" * 5
+    wide, equal, cleared = "5143027e00" + "0700ff" * 126, "equal 0 0 1 1 0 62 0", "sets zero 6400 kept 64, coeffs zero 3200 kept 64"
+    others = (("zero 6400", "zero 6399"), ("zero 6400", "zero 3200"), ("6400 kept 64", "6400 kept 63"), ("zero 3200", "zero 3199"), ("3200 kept 64", "3200 kept 63"))
+    not_cleared = [cleared.replace(*other) for other in others]
     for row, line, others in (
         ("check_gate;1 3 11 0 255;;", "refused 5 gate 3", ("refused 5 gate 4", "refused 5")),
         ("check;;5143010100;", "refused 13", ("refused 1", "refused 13 gate 0")),
@@ -515,8 +625,12 @@ def try_cross_check(folder):
         ("dense;0 0;5143070000;=", f"refused 14, {lent}", (f"refused 9, {lent}", f"refused 10, {lent}", f"equal 0 0, {lent}")),
         ("dense;0 0;5143010000;5143", f"refused 1 second, {lent}", (f"refused 1 first, {lent}", f"refused 1, {lent}")),
         (f"dense;512 0;{turn};5143010000", f"turned 7 0, {lent}", (f"equal 0 0, {lent}", f"turned 1 0, {lent}", f"turned 0 7, {lent}")),
-        (f"compare;3136 3136 0;{turn};5143010000", f"turned 7 0{none}, {left}", (f"equal 0 0{none}, {left}", f"turned 1 0{none}, {left}")),
-        (f"pick;3136 3136 0;{turn};5143010000", f"first {turn}, {left}", (f"second 5143010000, {left}", f"first 5143010000, {left}")),
+        (f"compare;6400 3200 0;{turn};5143010000", f"turned 7 0{none}, {left}", (f"equal 0 0{none}, {left}", f"turned 1 0{none}, {left}")),
+        (f"pick;6400 3200 0;{turn};5143010000", f"first {turn}, {left}", (f"second 5143010000, {left}", f"first 5143010000, {left}")),
+        (f"compare;6401 3201 1;{wide};5143020000", f"{equal}, {cleared}", tuple(f"{equal}, {other}" for other in not_cleared)),
+        (f"compare;6400 3200 0;{wide};5143020000", f"{equal}, {left}", ("refused 9, " + left, "different 0 0 1 0 0 62 1, " + left)),
+        (f"compare;3136 3136 0;{wide};5143020000", f"refused 10, {left}", (f"{equal}, {left}", f"refused 9, {left}")),
+        (f"compare;0 0 0;{wide};51430201000700ff", f"refused 9, {left}", (f"refused 10, {left}", f"{equal}, {left}")),
         ("read_report;;515603070000000101010000;", "fields 3 7 0 1 1 1 0 0", ("refused 5", "fields 0 7 0 1 1 1 0 0")),
         ("read_report;;515604070000000101010000;", "refused 5", ("fields 4 7 0 1 1 1 0 0",)),
         (f"join_in_time;2048 1;{t};=", "length 11 51430102000500ff0500ff kept 2037", (f"length 8 {t} kept 2040", "refused 11 kept 2048")),
@@ -561,7 +675,8 @@ def try_cross_check(folder):
     passes("cross-check, every class", cross.show_classes, check)
     check.see("a class of its own")
     ends("cross-check, a class that is not listed", cross.show_classes, check)
-    for name in (CLASSES[0], "join_in_space: 16 qubits", "program compare: joined with the inverse, turned 5"):
+    wide_classes = ("compare: sum at variable 126", "compare: pin at variable 127", "compare: an odd number of words", "compare: more than 64 variables: turned")
+    for name in (CLASSES[0], "join_in_space: 16 qubits", "program compare: joined with the inverse, turned 5", *wide_classes):
         check = cross.Check()
         check.see(*(other for other in CLASSES if other != name))
         ends(f"cross-check, a class that never came up: {name}", cross.show_classes, check)
@@ -571,13 +686,34 @@ def try_cross_check(folder):
     ends("cross-check, rows that were not run", cross.show_classes, check)
 
 
+def try_places():
+    """Where a step's variable stands, and whether sets differ in the high word alone."""
+    for event, name in (
+        ("pin, constant 1", "pin, constant 1"),
+        ("sum at variable 62", None),
+        ("sum at variable 63", "sum at variable 63"),
+        ("join for variable 64", "join for variable 64"),
+        ("turn at variable 65", "turn at variable 65 to 125"),
+        ("turn at variable 125", "turn at variable 65 to 125"),
+        ("join blocked at variable 126", "join blocked at variable 126"),
+        ("pin at variable 126", "pin at variable 65 to 126"),
+        ("pin at variable 127", "pin at variable 127"),
+        ("sum at variable 127", "sum at variable 127"),
+    ):
+        trial(f"cross-check, the class of {event}", cross.placed(event) == name, cross.placed(event))
+        listed = name is None or f"compare: {name}" in CLASSES
+        trial(f"cross-check, {event} is listed or not", listed == (event != "sum at variable 127"))
+    for terms, alone in (({1, 2**64 + 1}, True), ({2**64, 2**65}, True), ({1, 2**64}, False), ({1, 2}, False), ({2**64 + 1, 2**64 + 2}, False)):
+        trial(f"cross-check, sets {terms} that differ in the high word alone", cross.high_words_alone(terms) == alone)
+
+
 def try_agreement(folder):
     """Two comparisons that differ, and a verdict that the columns do not bear out."""
 
     def both(here, there):
         check = cross.Check()
         check.rows, check.both = ["0;a row", "1;another"], [(0, 1)]
-        check.printed = {"0": f"0: {here}, numbers zero 512 kept 8", "1": f"1: {there}, sets zero 3136 kept 64"}
+        check.printed = {"0": f"0: {here}, numbers zero 512 kept 8", "1": f"1: {there}, sets zero 6400 kept 64"}
         cross.agree_in_rows(check)
         return check.seen
 
@@ -661,7 +797,7 @@ def try_joins(folder):
         cross.agree_by_inverses(check)
         return check.seen
 
-    left, undecided = ", sets zero 3136 kept 64, coeffs zero 3136 kept 64", "undecided 0 0 1 0 0 0 1"
+    left, undecided = ", sets zero 6400 kept 64, coeffs zero 3200 kept 64", "undecided 0 0 1 0 0 0 1"
     for line, name in (("equal 0 0 1 1 0 0 0", "equal"), ("turned 7 0 1 1 1 0 0", "turned 7"), (undecided, "undecided")):
         seen = by_rows(line + left, line + left)
         trial(f"joins, {name} by rows", seen == {f"compare: joined with the inverse, {name}": 1}, seen)
@@ -736,14 +872,19 @@ def try_script(folder):
 
 def main():
     """Runs everything."""
+    try_places()
     for part in (try_gate, try_cross_check, try_agreement, try_joins, try_script):
         with tempfile.TemporaryDirectory() as folder:
             part(folder)
     with tempfile.TemporaryDirectory() as folder:
-        joins_alone(folder)
+        rows_alone(folder, "joins", ";join_in_")
         try_join_rows(folder)
         try_join_faults(folder)
         try_product_faults(folder)
+    with tempfile.TemporaryDirectory() as folder:
+        rows_alone(folder, "sets of two words", "wide: ")
+        try_wide_rows(folder)
+        try_wide_faults(folder)
     with tempfile.TemporaryDirectory() as folder:
         for name in ("tests", "docs", "examples", "bench", "crates", ".ci"):
             shutil.copytree(os.path.join(ROOT, name), os.path.join(folder, name))
@@ -755,6 +896,7 @@ def main():
         try_turn_faults(folder)
         try_column_faults(folder)
         try_search_faults(folder)
+        try_vector_faults(folder)
         try_small_faults(folder)
         try_documents(folder)
     print(f"gate: {HELD['trials']} trials, {HELD['failed']} failed")

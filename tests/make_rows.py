@@ -78,29 +78,39 @@ def held_as_joined(number, row, answer):
     return True
 
 
-def write(program, name, content):
-    """A file of a program, line by line; with --check it must be that already."""
+def write(program, name, content, check):
+    """A file of a program, line by line, written, or checked: then it must be that already."""
     text = "".join(line + "\n" for line in content)
     path = os.path.join(CRATES, program, name)
-    if "--check" not in sys.argv:
+    if not check:
         with open(path, "w") as out:
             out.write(text)
     elif open(path).read() != text:
         sys.exit(f"crates/{program}/{name} is not what rows.txt says: run tests/make_rows.py")
 
 
+def write_all(rows, check):
+    """The files of all programs."""
+    for program, done in rows.items():
+        write(program, "stdin", [row for row, _ in done], check)
+        write(program, "stdout", [line for _, line in done] + [f"rows {len(done)}"], check)
+
+
 def main():
     if sys.argv[1:] not in ([], ["--check"]):
         sys.exit("usage: make_rows.py [--check]")
+    check = "--check" in sys.argv
     written = list(read_rows(os.path.join(HERE, "rows.txt")))
     rows = {program: [] for program in call_rows.PROGRAMS}
     for number, row, answer in written:
         rows[call_rows.program_of(row)].append((row, expected(number, row, answer)))
+    # columns take the longest: the files are checked before, but written only behind them
+    if check:
+        write_all(rows, check)
     joins = sum(held_as_joined(*each) for each in written)
     held = sum(held_to_columns(*each) for each in written)
-    for program, done in rows.items():
-        write(program, "stdin", [row for row, _ in done])
-        write(program, "stdout", [line for _, line in done] + [f"rows {len(done)}"])
+    if not check:
+        write_all(rows, check)
     counts = ", ".join(f"{len(done)} rows of {program}" for program, done in rows.items())
     print(f"{counts}; {held} verdicts and {joins} joins held to columns")
 

@@ -10,8 +10,9 @@ from reference import h_gates
 ALL = list(range(11))
 CLIFFORD = [k for k in ALL if k not in (ref.T, ref.TI)]
 WITHOUT_H = [k for k in ALL if k != ref.H]
+PHASES = [ref.Z, ref.S, ref.SI, ref.CZ]
 KINDS = (ALL, CLIFFORD, [ref.T, ref.TI, ref.H, ref.CX, ref.CZ], [ref.H, ref.CZ, ref.S], [k for k in WITHOUT_H if k > ref.Y])
-MOST_GATES, MOST_VARIABLES = 512, 64
+MOST_GATES, MOST_VARIABLES = 512, 128
 
 
 def one(kind, *qubits):
@@ -105,7 +106,7 @@ def mixed(rng):
     """Unrelated lists, or the second rewritten, and sometimes spoilt."""
     n = rng.randint(1, rng.choice((2, 4, 6, 16)))
     kinds = rng.choice(KINDS)
-    most = (60 - n) // 2
+    most = (MOST_VARIABLES - 4 - n) // 2
     first = random_list(rng, n, kinds, rng.choice((0, 3, 10, 40, 150)), rng.randint(0, most))
     if rng.random() < 0.3:
         return n, first, random_list(rng, n, kinds, rng.choice((0, 3, 10, 40)), rng.randint(0, most))
@@ -179,14 +180,46 @@ def wide(rng):
     return n, first, spoilt(rng, n, second) if rng.random() < 0.5 else second
 
 
-def many_h(rng):
-    """As many H gates as a pair may have, or one more, which is refused."""
-    n = rng.choice((1, 8, 16, 16))
-    h = MOST_VARIABLES - n + (rng.random() < 0.3)
-    gates = one(ref.H, *(rng.randrange(n) for _ in range(h))) + random_list(rng, n, WITHOUT_H, rng.randint(0, 60), 0)
+def with_h(rng, n, hadamards, qubits, kinds, length):
+    """So many H gates on these qubits among so many others."""
+    gates = one(ref.H, *(rng.choice(qubits) for _ in range(hadamards))) + random_list(rng, n, kinds, length, 0)
     rng.shuffle(gates)
-    cut = rng.choice((0, len(gates), rng.randint(0, len(gates))))
-    return n, gates[:cut], ref.inverted(gates[cut:])
+    return gates
+
+
+def cut(rng, n, gates):
+    """A pair whose second list is the inverse of the end of these gates, which may be all or none."""
+    at = rng.choice((0, len(gates), rng.randint(0, len(gates))))
+    return n, gates[:at], ref.inverted(gates[at:])
+
+
+def many_h(rng):
+    """As many H gates as a pair may have, or one less, or one more, which is refused."""
+    n = rng.choice((1, 8, 16, 16))
+    h = MOST_VARIABLES - n + rng.choice((-1, 0, 0, 1))
+    return cut(rng, n, with_h(rng, n, h, range(n), WITHOUT_H, rng.randint(0, 60)))
+
+
+def tall(rng):
+    """65 variables and more, often as many as there may be: a list and the same rewritten, or turned, or spoilt, either way round."""
+    n = rng.choice((1, 2, 3, rng.randint(4, 15), 16))
+    variables = rng.choice((MOST_VARIABLES, rng.randint(66, MOST_VARIABLES)))
+    kinds = rng.choice((PHASES, [k for k in CLIFFORD if k != ref.H], WITHOUT_H))
+    first = with_h(rng, n, (variables - n) // 2, range(n), kinds, rng.randint(0, 60))
+    second = rewritten(rng, n, first, rng.randint(0, 3))
+    turned = put_in(rng, second, on(rng.randrange(n), BY_X_AND_T * rng.randint(1, 7)))
+    return n, *rng.sample((first, rng.choice((second, spoilt(rng, n, second), turned))), 2)
+
+
+def chain(rng):
+    """65 variables or few more, as many as there may be, or any number between, most of them of H gates on one qubit: the last are reached by every
+    step."""
+    n = rng.randint(1, 4)
+    variables = rng.choice((MOST_VARIABLES, rng.choice((65, 66)), rng.randint(65, MOST_VARIABLES)))
+    kinds = rng.choice(([ref.Z], PHASES, [*PHASES, ref.CX], [ref.S, ref.T, ref.TI, ref.CZ]))
+    few = rng.randint(0, 3)
+    gates = with_h(rng, n, variables - n - few, [rng.randrange(n)], kinds, rng.randint(0, 8))
+    return cut(rng, n, gates + one(ref.H, *(rng.randrange(n) for _ in range(few))))
 
 
 def long(rng):
@@ -249,7 +282,7 @@ def turned(rng):
     return n, *rng.sample((base, put_in(rng, rewritten(rng, n, base, rng.randint(0, 2)), turn(rng, n))), 2)
 
 
-FAMILIES = (mixed, diagonal, triples, wide, many_h, long, blocked, few_gates, equal, turned)
+FAMILIES = (mixed, diagonal, triples, wide, many_h, tall, chain, long, blocked, few_gates, equal, turned)
 
 
 # Small blocks.
@@ -319,12 +352,8 @@ def small_open(rng):
 def small_many_h(rng):
     """As many H gates as a small block may have, or one more, which is refused."""
     n = rng.randint(1, 6)
-    h = min(ref.MOST_HADAMARDS, MOST_VARIABLES - n) + (rng.random() < 0.2)
-    gates = random_list(rng, n, rng.choice((WITHOUT_H, [ref.S, ref.CX, ref.CZ], [ref.T, ref.CX])), rng.randint(0, 20), 0)
-    for _ in range(h):
-        gates = put_in(rng, gates, one(ref.H, rng.randrange(n)))
-    cut = rng.choice((0, len(gates), rng.randint(0, len(gates))))
-    return n, gates[:cut], ref.inverted(gates[cut:])
+    kinds = rng.choice((WITHOUT_H, [ref.S, ref.CX, ref.CZ], [ref.T, ref.CX]))
+    return cut(rng, n, with_h(rng, n, ref.MOST_HADAMARDS + (rng.random() < 0.2), range(n), kinds, rng.randint(0, 20)))
 
 
 def small_long(rng):
@@ -364,14 +393,14 @@ def join_wide(rng, in_space):
 
 
 def join_full(rng, in_space):
-    """512 gates together, or one or two more or less, or far more; now and then on too many qubits."""
+    """512 gates together, or one or two more or less, or far more; now and then on too many qubits, or with more H gates than a pair may have."""
     n, m = join_qubits(rng, in_space, 16)
     if rng.random() < 0.2:
         m = 17 - n if in_space else n % 16 + 1
     gates = rng.choice((511, 512, 512, 513, 514, 1023, 1024))
     g = rng.choice((max(0, gates - 512), min(512, gates), rng.randint(max(0, gates - 512), min(512, gates))))
     kinds = rng.choice(KINDS)
-    return n, random_list(rng, n, kinds, g, 40), m, random_list(rng, m, kinds, gates - g, 40)
+    return n, random_list(rng, n, kinds, g, 70), m, random_list(rng, m, kinds, gates - g, 70)
 
 
 def join_pair(rng, in_space):

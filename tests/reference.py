@@ -1,4 +1,4 @@
-"""An independent implementation of document 01 as items 1 to 5 of 02 change it, for tests alone: records and reports, the steps, the pick,
+"""An independent implementation of document 01 as items 1 to 6 of 02 change it, for tests alone: records and reports, the steps, the pick,
 exact dense columns, the comparison of small blocks by them, joins and what joined lists do.
 
 It shares no code with the engine and is written for plainness: terms are a dictionary from set to coefficient, and columns are
@@ -11,7 +11,8 @@ X, Y, Z, S, SI, T, TI, H, CX, CZ, SWAP = range(11)
 INVERSE = {S: SI, SI: S, T: TI, TI: T}
 # by number, as a report has them
 VERDICTS = ("equal", "different", "undecided", "turned")
-PLACES = 3136
+# of a pair: its variables, and the places of both workspaces: a term has a coefficient and, as its set, two words
+MOST_VARIABLES, PLACES, WORDS = 128, 3200, 6400
 # of a small block
 NUMBERS, MOST_QUBITS, MOST_HADAMARDS = 512, 6, 60
 
@@ -119,7 +120,7 @@ def odd(mask):
 
 
 class Sum:
-    """A path sum: wires as [set, bit], a constant, terms by set, and the live path variables."""
+    """A path sum: wires as [set, bit], a constant, terms by set, and the live path variables, lowest first."""
 
     def __init__(self, n):
         self.n = n
@@ -169,14 +170,14 @@ class Sum:
         else:
             self.put({Z: 4, S: 2, SI: -2, T: 1, TI: -1}[kind], *w[a])
 
+    def removed(self, v):
+        """The terms that hold variable v, which the sum no longer has."""
+        return [(s, self.terms.pop(s)) for s in list(self.terms) if s >> v & 1]
+
     def replace(self, z, mask, bit):
         """Variable z replaced by a parity, in terms and wires."""
-        old, self.terms = self.terms, {}
-        for s, c in old.items():
-            if s >> z & 1:
-                self.put(c, s ^ 1 << z ^ mask, bit)
-            else:
-                self.put(c, s, 0)
+        for s, c in self.removed(z):
+            self.put(c, s ^ 1 << z ^ mask, bit)
         for w in self.wires:
             if w[0] >> z & 1:
                 w[0] ^= 1 << z ^ mask
@@ -197,9 +198,8 @@ class Sum:
         return total // 2 % 4, linear
 
     def take_out(self, y):
-        old, self.terms = self.terms, {}
-        for s, c in old.items():
-            self.put(c, s & ~(1 << y), 0)
+        for s, c in self.removed(y):
+            self.put(c, s ^ 1 << y, 0)
 
     def phase(self, x):
         return (self.constant + sum(c for s, c in self.terms.items() if odd(s & x))) % 8
@@ -240,7 +240,8 @@ def agreed(power):
 
 
 def compare(n, first, second, events=None):
-    """The eight fields of the result. What happened on the way is added to events, a list of words."""
+    """The eight fields of the result. What happened on the way is added to events, a list of words: each step with its variable, of a join also the
+    one that it replaces, and what it was like."""
     s = built(n, first, second)
     pins = sums = turns = joins = 0
     events = [] if events is None else events
@@ -263,18 +264,18 @@ def compare(n, first, second, events=None):
         if z is not None:
             s.replace(z, mask ^ 1 << z, bit)
             pins += 1
-            events.append(f"pin, constant {bit}")
+            events += [f"pin at variable {z}", f"pin, constant {bit}"]
         elif mask or bit:
             return blocked("pin", mask, bit)
     while s.live:
-        candidates = [y for y in s.live if s.ready(y)]
-        if not candidates:
+        y = next((y for y in s.live if s.ready(y)), None)
+        if y is None:
             events.append("none ready")
             return result("undecided", 0, 0)
-        y = min(candidates)
         c, linear = s.halves(y)
         z = lowest(linear)
         if c % 2 == 0 and (c or linear) and z is None:
+            events.append(f"join blocked at variable {y}")
             return blocked("join", linear, c // 2)
         s.take_out(y)
         s.live.remove(y)
@@ -283,13 +284,14 @@ def compare(n, first, second, events=None):
             s.constant = (s.constant + turn) % 8
             s.put(-2 * turn, linear, 0)
             turns += 1
-            events.append(f"turn, C = {c}")
+            events += [f"turn at variable {y}", f"turn, C = {c}"]
         elif c or linear:
             s.replace(z, linear ^ 1 << z, c // 2)
             joins += 1
-            events.append(f"join, C = {c}")
+            events += [f"join at variable {y}", f"join for variable {z}", f"join, C = {c}"]
         else:
             sums += 1
+            events.append(f"sum at variable {y}")
     if pins != sums:
         events.append("pins differ from sums")
         return result("different", 0, 0)
@@ -344,7 +346,7 @@ def h_gates(gates):
 def check_pair(n, first, m, second):
     if n != m:
         raise Refused(8)
-    if n + h_gates(first + second) > 64:
+    if n + h_gates(first + second) > MOST_VARIABLES:
         raise Refused(9)
 
 
@@ -371,7 +373,7 @@ def read_lists(first, second):
 def read_pair(first, second, words, places):
     """n and both lists of a pair that is accepted with workspaces of so many words and byte places; raises Refused."""
     pair = read_lists(first, second)
-    if words < PLACES or places < PLACES:
+    if words < WORDS or places < PLACES:
         raise Refused(10)
     return pair
 

@@ -4,7 +4,6 @@ use calls_lists::Lists;
 use calls_lists::MOST_BYTES;
 use calls_lists::lists_of;
 use calls_lists::refusals;
-use calls_text::are_below;
 use calls_text::are_numbers;
 use calls_text::byte;
 use calls_text::front;
@@ -14,6 +13,11 @@ use calls_text::workspaces;
 use comparison::Answer;
 use comparison::Outcome;
 use comparison::Refusal;
+
+// The words and the bytes that there are to lend.
+const ALL_WORDS: usize = 6464;
+
+const ALL_BYTES: usize = 3264;
 
 // A verdict's word, by its number.
 pub fn verdict(number: u8) {
@@ -114,12 +118,15 @@ fn in_first<'a>(
     compare(first, second, sets, coeffs);
 }
 
-// Are these three numbers, the first two of them no more than the places there are?
+// Are these three numbers, the first no more than the words there are and the second no more than the bytes?
 fn is_well(numbers: &[u8]) -> bool {
     if !are_numbers(numbers, 3) {
         return false;
     }
-    are_below(numbers, 0, 2, 3201)
+    if number(numbers, 0) > ALL_WORDS {
+        return false;
+    }
+    number(numbers, 1) <= ALL_BYTES
 }
 
 // The call, and the workspaces afterwards.
@@ -131,8 +138,8 @@ fn on<'a>(picks: bool, numbers: &[u8], first: &'a [u8], second: &'a [u8]) {
     let words = number(numbers, 0);
     let bytes = number(numbers, 1);
     let seed = number(numbers, 2) as u64;
-    let mut sets = [0u64; 3200];
-    let mut coeffs = [0u8; 3200];
+    let mut sets = [0u64; ALL_WORDS];
+    let mut coeffs = [0u8; ALL_BYTES];
     workspaces::fill_words(&mut sets, seed);
     workspaces::fill_bytes(&mut coeffs, seed);
     in_first(picks, first, second, &mut sets, words, &mut coeffs, bytes);

@@ -3,8 +3,10 @@
 use crate::plus;
 use crate::print;
 
-// The places that a comparison uses.
-const PLACES: usize = 3136;
+// The words and the bytes that a comparison uses: the first of those that it is lent.
+const USED_WORDS: usize = 6400;
+
+const USED_BYTES: usize = 3200;
 
 // The number behind one: Marsaglia's xorshift, which leads from 0 to 0 alone.
 pub fn next(x: u64) -> u64 {
@@ -54,14 +56,14 @@ pub fn with(seen: Seen, is_zero: bool, is_kept: bool) -> Seen {
     }
 }
 
-// One place more: what it holds, and what it held before.
-fn and(seen: Seen, at: usize, held: u64, before: u64) -> Seen {
-    with(seen, is_zero_place(at, held), held == before)
+// One place more, of which so many are used: what it holds, and what it held before.
+fn and(seen: Seen, at: usize, used: usize, held: u64, before: u64) -> Seen {
+    with(seen, is_zero_place(at, used, held), held == before)
 }
 
-// Is this a place that a comparison uses, and does it hold 0?
-fn is_zero_place(at: usize, held: u64) -> bool {
-    if at < PLACES { held == 0 } else { false }
+// Is this one of so many places that are used, and does it hold 0?
+fn is_zero_place(at: usize, used: usize, held: u64) -> bool {
+    if at < used { held == 0 } else { false }
 }
 
 // The words afterwards.
@@ -70,7 +72,7 @@ fn words_seen(words: &[u64], seed: u64) -> Seen {
     let mut x = seed;
     let mut i = 0;
     while i < words.len() {
-        seen = and(seen, i, words[i], x);
+        seen = and(seen, i, USED_WORDS, words[i], x);
         x = next(x);
         i += 1;
     }
@@ -88,7 +90,7 @@ fn bytes_seen(bytes: &[u8], seed: u64) -> Seen {
     let mut x = seed;
     let mut i = 0;
     while i < bytes.len() {
-        seen = and(seen, i, wide(bytes[i]), wide(byte_of(x)));
+        seen = and(seen, i, USED_BYTES, wide(bytes[i]), wide(byte_of(x)));
         x = next(x);
         i += 1;
     }

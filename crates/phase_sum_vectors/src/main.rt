@@ -1,5 +1,6 @@
 // Runs the phase-sum layer on rows from standard input and prints what each gives. tests/phase_sum_rows.py writes the rows and,
 // by an independent computation, what must be printed.
+mod operations;
 mod pair;
 mod print;
 mod row;
@@ -12,8 +13,8 @@ use phase_sum_types::Phase;
 fn run(input: &[u8], sets: &mut [u64], coeffs: &mut [u8]) {
     let mut state = steps::State {
         wires: steps::Wires {
-            sets: [0; 16],
-            flips: [false; 16],
+            sets: [0; steps::WIRE_WORDS],
+            flips: [false; steps::QUBITS],
         },
         phase: Phase {
             constant: 0,
@@ -36,7 +37,7 @@ fn run(input: &[u8], sets: &mut [u64], coeffs: &mut [u8]) {
 fn main() {
     let mut buffer = io::large_buffer();
     let got = io::read_full(STDIN_FILENO, &mut buffer);
-    let mut sets = [0u64; 3136];
-    let mut coeffs = [0u8; 3136];
+    let mut sets = [0u64; pair::SET_WORDS];
+    let mut coeffs = [0u8; pair::PLACES];
     run(&buffer[..got], &mut sets, &mut coeffs);
 }

@@ -11,17 +11,24 @@ use crate::print;
 use crate::row;
 use crate::steps::QUBITS;
 use crate::steps::State;
+use crate::steps::WIRE_WORDS;
 use crate::steps::Wires;
 use gate_counting::h_gates;
 use phase_sum_sets::count;
 use phase_sum_types::Sum;
+use phase_sum_types::WORDS_EACH;
 use record_format::Checked;
 use record_format::HEAD_SIZE;
 use record_reading::check;
 use record_reading::gates;
 
-// The places that building asks of each workspace.
-const PLACES: usize = 3136;
+// The coefficients that building asks for, and the words of as many sets.
+pub(crate) const PLACES: usize = 3200;
+
+pub(crate) const SET_WORDS: usize = WORDS_EACH * PLACES;
+
+// The variables that a pair may have.
+const MOST_VARIABLES: usize = 128;
 
 // The qubits of the record at the start of the bytes; 0 where it is refused.
 fn qubits(s: &[u8]) -> usize
@@ -33,22 +40,22 @@ fn qubits(s: &[u8]) -> usize
     }
 }
 
-// Whether two lists on n qubits, by their gate bytes, have at most 64 variables together.
+// Whether two lists on n qubits, by their gate bytes, have at most as many variables together as a pair may have.
 fn few_variables(n: usize, first: &[u8], second: &[u8]) -> bool
     ensures { λ r. ⌜ (r ≡ true → n + (hGates (gatesIn (now (first .entry))) + hGates (gatesIn (now (second .entry)))) ≤ mostVariables) ⌝ }
 {
     let h = h_gates(first);
     let k = h_gates(second);
-    if n > 64 {
+    if n > MOST_VARIABLES {
         return false;
     }
-    if h > 64 {
+    if h > MOST_VARIABLES {
         return false;
     }
-    if k > 64 {
+    if k > MOST_VARIABLES {
         return false;
     }
-    n + (h + k) <= 64
+    n + (h + k) <= MOST_VARIABLES
 }
 
 // A sum on n qubits: the next variable, the constant and the terms on a line, and the wires.
@@ -75,10 +82,10 @@ fn sum_of(
     if n > QUBITS {
         return state;
     }
-    if sets.len() < PLACES {
+    if sets.len() != SET_WORDS {
         return state;
     }
-    if coeffs.len() < PLACES {
+    if coeffs.len() != PLACES {
         return state;
     }
     let one = gates(first);
@@ -86,9 +93,10 @@ fn sum_of(
     if !few_variables(n, one, two) {
         return state;
     }
-    let mut ws = [0u64; QUBITS];
+    let mut ws = [0u64; WIRE_WORDS];
     let mut fs = [false; QUBITS];
-    let sum = phase_sum_building::build(one, two, &mut ws[..n], &mut fs[..n], sets, coeffs);
+    let words = WORDS_EACH * n;
+    let sum = phase_sum_building::build(one, two, &mut ws[..words], &mut fs[..n], sets, coeffs);
     let wires = Wires {
         sets: ws,
         flips: fs,

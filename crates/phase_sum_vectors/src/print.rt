@@ -1,7 +1,10 @@
-// Numbers in decimal, a space behind each, and line ends.
+// Numbers in decimal, a space behind each, and line ends. A set is its two words, the low one first.
+use crate::steps::QUBITS;
 use crate::steps::Wires;
 use libc::STDOUT_FILENO;
+use phase_sum_sets::load;
 use phase_sum_types::Set;
+use phase_sum_types::WORDS_EACH;
 
 // A number and a space.
 pub(crate) fn number(x: u64) {
@@ -9,9 +12,10 @@ pub(crate) fn number(x: u64) {
     io::write_all(STDOUT_FILENO, b" ");
 }
 
-// A set as its word, and a space.
+// A set as its words, each with a space.
 pub(crate) fn set(s: Set) {
-    number(s.word);
+    number(s.low);
+    number(s.high);
 }
 
 // The end of a line.
@@ -28,9 +32,9 @@ pub(crate) fn wide(x: u8) -> u64 {
 pub(crate) fn terms(sets: &[u64], coeffs: &[u8], count: usize) {
     let mut i = 0;
     while i < count {
-        if i < sets.len() {
+        if i < sets.len() / WORDS_EACH {
             if i < coeffs.len() {
-                number(sets[i]);
+                set(load(sets, i));
                 number(wide(coeffs[i]));
             }
         }
@@ -52,8 +56,10 @@ pub(crate) fn wires(w: Wires) {
     let sets = w.sets;
     let flips = w.flips;
     let mut q = 0;
-    while q < 16 {
-        number(sets[q]);
+    while q < QUBITS {
+        let at = WORDS_EACH * q;
+        number(sets[at]);
+        number(sets[at + 1]);
         bit(flips[q]);
         q += 1;
     }

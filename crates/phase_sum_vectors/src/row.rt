@@ -1,13 +1,16 @@
-// A row: 14 bytes (the function, a variable, whether a parity is complemented (1) or nothing is printed (2), a constant, a count
-// of two bytes, a set of eight) and then, to load terms, count terms of nine bytes each, or, to build, two records of count bytes
-// together.
+// A row: 22 bytes (the function, a variable, whether a parity is complemented (1) or nothing is printed (2), a constant, a count
+// of two bytes, a set of two words of eight, the low one first) and then, to load terms, count terms of 17 bytes each, or, to build, two records of
+// count bytes together.
 ghost use Prim.Native.Nat.{_<_};
+use phase_sum_types::Set;
 
 // The bytes of a row's head.
-pub(crate) const HEAD: usize = 14;
+pub(crate) const HEAD: usize = 22;
 
-// The bytes of a term: set and coefficient.
-pub(crate) const TERM: usize = 9;
+// The bytes of a set, and of a term: set and coefficient.
+pub(crate) const SET: usize = 16;
+
+pub(crate) const TERM: usize = 17;
 
 // The functions, by their numbers in a row.
 pub(crate) const LOAD: u8 = 0;
@@ -34,6 +37,10 @@ pub(crate) const APPEND: u8 = 10;
 
 pub(crate) const ODD_BOTH: u8 = 11;
 
+pub(crate) const ONE_SET: u8 = 12;
+
+pub(crate) const TWO_SETS: u8 = 13;
+
 pub struct Row {
     pub function: u8,
     pub variable: u8,
@@ -42,7 +49,7 @@ pub struct Row {
     pub quiet: bool,
     pub constant: u8,
     pub count: usize,
-    pub set: u64,
+    pub set: Set,
     // The row's bytes; at least 1.
     pub size: usize,
 }
@@ -58,7 +65,7 @@ fn wide(x: u8) -> u64 {
 }
 
 // Eight bytes from a place on, low byte first.
-pub(crate) fn word(s: &[u8], at: usize) -> u64 {
+fn word(s: &[u8], at: usize) -> u64 {
     let mut x = 0u64;
     let mut i = 8;
     while i > 0 {
@@ -66,6 +73,14 @@ pub(crate) fn word(s: &[u8], at: usize) -> u64 {
         x = (x << 8) | wide(byte(s, std::num::wrapping_add_usize(at, i)));
     }
     x
+}
+
+// The set of two words from a place on, the low one first.
+pub(crate) fn set_at(s: &[u8], at: usize) -> Set {
+    Set {
+        low: word(s, at),
+        high: word(s, std::num::wrapping_add_usize(at, 8)),
+    }
 }
 
 // Two bytes from a place on, low byte first.
@@ -80,7 +95,7 @@ fn count_at(s: &[u8], at: usize) -> usize
 // How many bytes follow the head.
 fn body(function: u8, count: usize) -> usize
     requires { ⌜ count < 65536 ⌝ }
-    ensures { λ r. ⌜ r < 1000000 ⌝ }
+    ensures { λ r. ⌜ r < 2000000 ⌝ }
 {
     match function {
         LOAD => TERM * count,
@@ -102,7 +117,7 @@ pub(crate) fn read(s: &[u8]) -> Row
         quiet: byte(s, 2) == 2,
         constant: byte(s, 3),
         count,
-        set: word(s, 6),
+        set: set_at(s, 6),
         size: HEAD + body(function, count),
     }
 }

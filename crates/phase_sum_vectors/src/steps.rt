@@ -2,24 +2,30 @@
 ghost use Prim.Native.Nat.{_<_, _≤_};
 ghost use lib.ListN.{length};
 ghost use Rattle.phase_sum_meaning.specs.Room.{mostVariables};
+ghost use Rattle.phase_sum_types.specs.Workspace.{Level};
+use crate::operations;
 use crate::pair;
 use crate::print;
 use crate::row;
 use crate::row::Row;
 use phase_sum_sets::empty;
 use phase_sum_sets::parity;
+use phase_sum_sets::store;
 use phase_sum_terms::terms;
 use phase_sum_types::Parity;
 use phase_sum_types::Phase;
 use phase_sum_types::Set;
 use phase_sum_types::Sum;
+use phase_sum_types::WORDS_EACH;
 
-// The qubits that the wires have places for.
+// The qubits that the wires have places for, and the words of their sets.
 pub(crate) const QUBITS: usize = 16;
 
+pub(crate) const WIRE_WORDS: usize = WORDS_EACH * QUBITS;
+
 pub struct Wires {
-    pub sets: [u64; 16],
-    pub flips: [bool; 16],
+    pub sets: [u64; WIRE_WORDS],
+    pub flips: [bool; QUBITS],
 }
 
 pub struct State {
@@ -27,15 +33,18 @@ pub struct State {
     pub phase: Phase,
 }
 
-// A term at a place; none past the end.
-fn put(sets: &mut [u64], coeffs: &mut [u8], i: usize, set: u64, coeff: u8) {
-    if i >= sets.len() {
+// A term at a place; none past the end, nor where the words are not two for each coefficient.
+fn put(sets: &mut [u64], coeffs: &mut [u8], i: usize, set: Set, coeff: u8) {
+    if sets.len() % WORDS_EACH != 0 {
+        return;
+    }
+    if sets.len() / WORDS_EACH != coeffs.len() {
         return;
     }
     if i >= coeffs.len() {
         return;
     }
-    sets[i] = set;
+    store(sets, i, set);
     coeffs[i] = coeff;
 }
 
@@ -45,8 +54,8 @@ fn load(r: Row, body: &[u8], sets: &mut [u64], coeffs: &mut [u8]) -> Phase {
     let mut i = 0;
     let mut at = row::HEAD;
     while i < count {
-        let coeff = row::byte(body, std::num::wrapping_add_usize(at, 8));
-        put(sets, coeffs, i, row::word(body, at), coeff);
+        let coeff = row::byte(body, std::num::wrapping_add_usize(at, row::SET));
+        put(sets, coeffs, i, row::set_at(body, at), coeff);
         i += 1;
         at = std::num::wrapping_add_usize(at, row::TERM);
     }
@@ -56,17 +65,20 @@ fn load(r: Row, body: &[u8], sets: &mut [u64], coeffs: &mut [u8]) -> Phase {
     }
 }
 
-// A row that changes the phase; where the workspaces hold no such count of terms, none does.
+// A row that changes the phase; where the workspaces hold no such count of terms, or no two words for each coefficient, none does.
 fn change(phase: Phase, r: Row, body: &[u8], sets: &mut [u64], coeffs: &mut [u8]) -> Phase {
     let count = phase.count;
-    if count > sets.len() {
+    if sets.len() % WORDS_EACH != 0 {
+        return phase;
+    }
+    if sets.len() / WORDS_EACH != coeffs.len() {
         return phase;
     }
     if count > coeffs.len() {
         return phase;
     }
     let function = r.function;
-    let v = (r.variable % 64) as u32;
+    let v = (r.variable % 128) as u32;
     match function {
         row::LOAD => load(r, body, sets, coeffs),
         row::CANONICAL => Phase {
@@ -75,7 +87,7 @@ fn change(phase: Phase, r: Row, body: &[u8], sets: &mut [u64], coeffs: &mut [u8]
         },
         row::TAKE_OUT => taken_out(phase, v, sets, coeffs),
         row::CLEAR => {
-            terms::clear(sets, coeffs, count);
+            terms::zero(sets, coeffs, 0, count);
             Phase {
                 constant: 0,
                 count: 0,
@@ -88,7 +100,7 @@ fn change(phase: Phase, r: Row, body: &[u8], sets: &mut [u64], coeffs: &mut [u8]
 
 // A variable taken out.
 fn taken_out(phase: Phase, v: u32, sets: &mut [u64], coeffs: &mut [u8]) -> Phase
-    requires { ⌜ (v < mostVariables) × (phase .count ≤ length (now sets)) × (phase .count ≤ length (now coeffs)) ⌝ }
+    requires { ⌜ (v < mostVariables) × Level (now sets) (now coeffs) × (phase .count ≤ length (now coeffs)) ⌝ }
 {
     let sum = phase_sum_stepping::take_out(
         Sum {
@@ -113,18 +125,25 @@ fn replaced_in(
     coeffs: &mut [u8],
 ) -> Phase {
     let count = phase.count;
-    if fs.len() != ws.len() {
+    if ws.len() % WORDS_EACH != 0 {
         return phase;
     }
-    if count > sets.len() {
+    if ws.len() / WORDS_EACH != fs.len() {
+        return phase;
+    }
+    if sets.len() % WORDS_EACH != 0 {
+        return phase;
+    }
+    if sets.len() / WORDS_EACH != coeffs.len() {
         return phase;
     }
     if count > coeffs.len() {
         return phase;
     }
-    let z = (r.variable % 64) as u32;
+    let z = (r.variable % 128) as u32;
+    let set = r.set;
     let p = Parity {
-        set: Set { word: r.set },
+        set,
         flipped: r.flipped,
     };
     let sum = phase_sum_stepping::replace(
@@ -162,7 +181,10 @@ fn replaced(state: State, r: Row, sets: &mut [u64], coeffs: &mut [u8]) -> State 
 // A term more.
 fn append(phase: Phase, r: Row, sets: &mut [u64], coeffs: &mut [u8]) -> Phase {
     let count = phase.count;
-    if count >= sets.len() {
+    if sets.len() % WORDS_EACH != 0 {
+        return phase;
+    }
+    if sets.len() / WORDS_EACH != coeffs.len() {
         return phase;
     }
     if count >= coeffs.len() {
@@ -170,21 +192,32 @@ fn append(phase: Phase, r: Row, sets: &mut [u64], coeffs: &mut [u8]) -> Phase {
     }
     Phase {
         constant: phase.constant,
-        count: terms::append(sets, coeffs, count, Set { word: r.set }, r.constant),
+        count: terms::append(sets, coeffs, count, r.set, r.constant),
     }
+}
+
+// The set of the first of count terms, or the empty one.
+fn first_set(sets: &[u64], count: usize) -> Set {
+    if count == 0 {
+        return empty();
+    }
+    if sets.len() < WORDS_EACH {
+        return empty();
+    }
+    phase_sum_sets::load(sets, 0)
 }
 
 // What a row asks for.
 fn ask(phase: Phase, r: Row, sets: &[u64], coeffs: &[u8]) {
     let count = phase.count;
-    if count > sets.len() {
+    if count > sets.len() / WORDS_EACH {
         return;
     }
     if count > coeffs.len() {
         return;
     }
     let function = r.function;
-    let v = (r.variable % 64) as u32;
+    let v = (r.variable % 128) as u32;
     match function {
         row::ODD_MASK => print::set(phase_sum_reading::odd_mask(sets, coeffs, count)),
         row::HALVES => {
@@ -192,13 +225,20 @@ fn ask(phase: Phase, r: Row, sets: &[u64], coeffs: &[u8]) {
             print::number(print::wide(h.c));
             print::set(h.l);
         }
-        row::PHASE_AT => print::number(print::wide(terms::phase_at(sets, coeffs, phase, r.set))),
-        row::PARITY => print::bit(parity(Set { word: r.set }, 1u64 << v)),
+        row::PHASE_AT => print::number(print::wide(terms::phase_at(
+            sets,
+            coeffs,
+            phase,
+            r.set.low,
+        ))),
+        row::PARITY => print::bit(parity(r.set, 1u64 << (r.variable % 64))),
         row::ODD_BOTH => {
             let mask = phase_sum_reading::odd_mask(sets, coeffs, count);
-            let w = (r.constant % 64) as u32;
+            let w = (r.constant % 128) as u32;
             print::set(phase_sum_reading::odd_both_in(mask, sets, coeffs, count, v, w));
         }
+        row::ONE_SET => operations::of_one(r),
+        row::TWO_SETS => operations::of_two(r.set, first_set(sets, count)),
         _ => {}
     }
 }

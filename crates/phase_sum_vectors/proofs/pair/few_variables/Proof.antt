@@ -1,4 +1,4 @@
--- `phase_sum_vectors::pair::few_variables` meets its contract: `true` is the answer only where the sum is at most 64.
+-- `phase_sum_vectors::pair::few_variables` meets its contract: `true` is the answer only where the sum is no more than a pair may have.
 -- Assumes nothing.
 use mathlib.Core.Path.{_≡_}
 use Prim.Native.Nat.{ℕ}

@@ -14,6 +14,9 @@ abbrev μ-loop : tie.MeasureT-loop
 loop-holds : tie.Need-loop-holds Inv-loop μ-loop
 loop-holds c = search needs
 
+mul-at : tie.Need-mul-at Inv-loop μ-loop
+mul-at c = search needs
+
 mul-number : tie.Need-mul-number Inv-loop μ-loop
 mul-number c = search needs
 
@@ -22,6 +25,18 @@ array-read-number c = search needs
 
 number-requires : tie.Need-number-requires Inv-loop μ-loop
 number-requires c κs = search needs
+
+add-number : tie.Need-add-number Inv-loop μ-loop
+add-number c = search needs
+
+mul-number-2 : tie.Need-mul-number-2 Inv-loop μ-loop
+mul-number-2 c = search needs
+
+array-read-number-2 : tie.Need-array-read-number-2 Inv-loop μ-loop
+array-read-number-2 c = search needs
+
+number-requires-2 : tie.Need-number-requires-2 Inv-loop μ-loop
+number-requires-2 c κs = search needs
 
 array-read-bit : tie.Need-array-read-bit Inv-loop μ-loop
 array-read-bit c = search needs
@@ -51,9 +66,14 @@ wires-spec =
     Inv-loop
     μ-loop
     loop-holds
+    mul-at
     mul-number
     array-read-number
     number-requires
+    add-number
+    mul-number-2
+    array-read-number-2
+    number-requires-2
     array-read-bit
     bit-requires
     add-q

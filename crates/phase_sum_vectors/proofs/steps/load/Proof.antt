@@ -9,8 +9,7 @@ use Rattle.phase_sum_vectors.proofs.steps.load.Statement.{statement}
 use Rattle.phase_sum_vectors.proofs.steps.load.Tie as tie
 
 abbrev Inv-loop : tie.InvT-loop
-Inv-loop r body sets₀ coeffs₀ count i₀ at₀ sets coeffs i at =
-    (i ≤ count) × (length sets ≡ length sets₀) × (length coeffs ≡ length coeffs₀)
+Inv-loop r body sets₀ coeffs₀ count i₀ at₀ sets coeffs i at = (i ≤ count) × (length sets ≡ length sets₀) × (length coeffs ≡ length coeffs₀)
 
 abbrev μ-loop : tie.MeasureT-loop
 μ-loop r body sets₀ coeffs₀ count i₀ at₀ sets coeffs i at = count - i
@@ -24,8 +23,8 @@ wrapping-add-usize-requires c κs = search needs
 byte-requires : tie.Need-byte-requires Inv-loop μ-loop
 byte-requires c κs = search needs
 
-word-requires : tie.Need-word-requires Inv-loop μ-loop
-word-requires c κs = search needs
+set-at-requires : tie.Need-set-at-requires Inv-loop μ-loop
+set-at-requires c κs = search needs
 
 put-requires : tie.Need-put-requires Inv-loop μ-loop
 put-requires c κs = search needs
@@ -60,7 +59,7 @@ load-spec =
     loop-holds
     wrapping-add-usize-requires
     byte-requires
-    word-requires
+    set-at-requires
     put-requires
     add-i
     wrapping-add-usize-requires-2
