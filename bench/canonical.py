@@ -18,15 +18,20 @@ ROOT = os.path.join(os.path.dirname(os.path.abspath(__file__)), "..")
 ENGINE = os.path.join(ROOT, "target", "bin", "phase_sum_vectors")
 LOAD, CANONICAL, NOTHING = 0, 1, 255
 QUIET = 2
-SIZES = (3000, 3136)
+SIZES = (3000, 3200)
+# the sets of one word are below this number, and those of two below its square
 TOP = 1 << 64
 # as in the engine: how many levels of splits, and how far apart the samples stand
 LEVELS, TENTHS = 16, 10
 
 
+def bytes_of(terms):
+    """Terms as the rows and the Rust program have them: the low word, the high word, the coefficient."""
+    return b"".join(struct.pack("<QQB", s % TOP, s // TOP, c) for s, c in terms)
+
+
 def row(function, terms=()):
-    body = b"".join(struct.pack("<QB", *t) for t in terms)
-    return struct.pack("<BBBBHQ", function, 0, QUIET, 0, len(terms), 0) + body
+    return struct.pack("<BBBBHQQ", function, 0, QUIET, 0, len(terms), 0, 0) + bytes_of(terms)
 
 
 def instructions(command, data):
@@ -45,7 +50,7 @@ def engine(program, terms):
 
 
 def standard(binary, terms):
-    body = b"".join(struct.pack("<QB", *t) for t in terms)
+    body = bytes_of(terms)
     return instructions([binary], b"\1" + body) - instructions([binary], b"\0" + body)
 
 
@@ -97,7 +102,16 @@ def replaced(rng, m, y):
 
 
 def families(rng, m):
-    """Named lists of m sets."""
+    """Named lists of m sets: of one word, and of two."""
+    for name, sets in one_word_families(rng, m):
+        yield name, [s % TOP for s in sets]
+    yield "random, 128 variables", [rng.getrandbits(128) for _ in range(m)]
+    yield "equal low words", [rng.getrandbits(64) * TOP + 12345678901 for _ in range(m)]
+    yield "against this sort, high words", [s * TOP for s in against(rng, m)]
+
+
+def one_word_families(rng, m):
+    """Named lists of m sets within 64 variables, as numbers whose low word counts."""
     step = TOP // (m + 1)
     yield "random", [rng.getrandbits(64) for _ in range(m)]
     yield "random, 40 variables", [rng.getrandbits(40) for _ in range(m)]
@@ -155,12 +169,12 @@ def spreads(rng, m):
 
 
 def with_coefficients(rng, sets):
-    return [(s % TOP, rng.randint(1, 7)) for s in sets]
+    return [(s, rng.randint(1, 7)) for s in sets]
 
 
 def named(program, binary):
     """Both programs on the named families."""
-    print("terms  sets                           engine   standard  ratio  to its random case")
+    print("terms  sets                             engine   standard  ratio  to its random case")
     for m in SIZES:
         rng = random.Random(m)
         base = None
@@ -168,7 +182,7 @@ def named(program, binary):
             terms = with_coefficients(rng, sets)
             ours, theirs = engine(program, terms), standard(binary, terms)
             base = base or ours
-            print(f"{m:5}  {name:28} {ours:8}   {theirs:8}  {ours / theirs:5.2f}  {ours / base:5.2f}", flush=True)
+            print(f"{m:5}  {name:30} {ours:8}   {theirs:8}  {ours / theirs:5.2f}  {ours / base:5.2f}", flush=True)
 
 
 def ordered(program):
@@ -180,7 +194,7 @@ def ordered(program):
         base = None
         worst = 0
         for name, order in orders(rng, m):
-            costs = [engine(program, with_coefficients(rng, [way(r) for r in order])) for _, way in ways]
+            costs = [engine(program, with_coefficients(rng, [way(r) % TOP for r in order])) for _, way in ways]
             base = base or costs[0]
             worst = max(worst, *costs)
             print(f"{name:31}" + "".join(f"{cost / base:12.2f}" for cost in costs), flush=True)

@@ -1,13 +1,13 @@
 // The canonical form of terms by the standard library's sort and dedup, for comparison. Standard input: a byte (1: make the
-// canonical form, 0: only read), then terms of nine bytes, a set of eight (low byte first) and a coefficient. Prints how many stay.
+// canonical form, 0: only read), then terms of 17 bytes, a set of 16 (low byte first) and a coefficient. Prints how many stay.
 use std::io::Read;
 
 fn main() {
     let mut input = Vec::new();
     std::io::stdin().read_to_end(&mut input).unwrap();
-    let mut terms: Vec<(u64, u8)> = input[1..]
-        .chunks_exact(9)
-        .map(|t| (u64::from_le_bytes(t[..8].try_into().unwrap()), t[8]))
+    let mut terms: Vec<(u128, u8)> = input[1..]
+        .chunks_exact(17)
+        .map(|t| (u128::from_le_bytes(t[..16].try_into().unwrap()), t[16]))
         .collect();
     if input[0] == 1 {
         terms.sort_unstable_by_key(|t| t.0);

@@ -1,11 +1,13 @@
 #!/usr/bin/env python3
 """Instructions for whole comparisons: the engine's program and the plain Rust program of the same steps, family by family.
 
-    rt check compare && python3 bench/compare.py [--write] [--engine PROGRAM]
+    rt check compare && python3 bench/compare.py [--write] [--engine PROGRAM] [--before PROGRAM]
 
 Counted by valgrind's callgrind, less those of a pair of empty lists on 1 qubit: on 16 qubits that pair itself goes through the search, over
 up to 696 inputs, so that a change of the search would move the zero of the scale. The large families are on 16 qubits, with 48 H gates in
-both lists together; two more have no H gate and no term, and one is of small pairs. With --write the tables go to docs/BENCHMARKS.md.
+both lists together, or with as many as make 96 or 128 variables; two more have no H gate and no term, and one is of small pairs. With --before the
+engine's program of another delivery runs in place of the plain one, on the pairs that have at most 64 variables, which every delivery takes. With
+--write the tables go to docs/BENCHMARKS.md.
 """
 import argparse
 import os
@@ -31,14 +33,20 @@ class Family:
         self.kinds, self.qubits, self.hadamards, self.lengths, self.bar = kinds, qubits, hadamards, lengths, bar
 
 
+KINDS = {
+    "Clifford": [X, Y, Z, S, SI, CX, CX, CZ, CZ, SWAP],
+    "T-heavy": [T, T, TI, S, CX, CX, CX],
+    "CZ-heavy": [CZ, CZ, CZ, CZ, S, CX],
+    "mixed": [X, Z, S, T, TI, CX, CX, CZ, SWAP],
+}
+BARS = {"Clifford": 5_000_000, "T-heavy": 3_000_000, "CZ-heavy": 16_000_000, "mixed": 4_000_000}
 FAMILIES = {
-    "Clifford": Family([X, Y, Z, S, SI, CX, CX, CZ, CZ, SWAP], bar=5_000_000),
-    "T-heavy": Family([T, T, TI, S, CX, CX, CX], bar=3_000_000),
-    "CZ-heavy": Family([CZ, CZ, CZ, CZ, S, CX], bar=16_000_000),
-    "mixed": Family([X, Z, S, T, TI, CX, CX, CZ, SWAP], bar=4_000_000),
+    **{name: Family(kinds, bar=BARS[name]) for name, kinds in KINDS.items()},
     "X only": Family([X], hadamards=0, lengths=(512,)),
     "CX only": Family([CX], hadamards=0, lengths=(512,)),
     "small": Family([X, Z, S, SI, T, TI, CX, CX, CZ], qubits=4, hadamards=4, lengths=(20,)),
+    "mixed, 96 variables": Family(KINDS["mixed"], hadamards=40, lengths=(512,)),
+    **{f"{name}, 128 variables": Family(kinds, hadamards=56, lengths=(512,)) for name, kinds in KINDS.items()},
 }
 
 
@@ -162,37 +170,91 @@ def timed(command, data):
     return time.perf_counter() - start
 
 
-def same_line(plain, data, engine=ENGINE):
+def same_line(other, data, engine=ENGINE):
     """What both programs print."""
-    line, other = run([engine], data).stdout, run([plain], data).stdout
-    if line != other:
-        sys.exit(f"the engine prints {line!r}, the plain program {other!r}, for {data.hex()}")
+    line, another = run([engine], data).stdout, run([other], data).stdout
+    if line != another:
+        sys.exit(f"the engine prints {line!r}, {other} prints {another!r}, for {data.hex()}")
     return line
+
+
+def bases(*programs):
+    """The instructions of each program for a pair of empty lists."""
+    return {program: instructions(program, 2 * record([], 1)) for program in programs}
+
+
+def both(other, base, data, engine):
+    """Both programs' instructions for a pair, the engine's first."""
+    return [instructions(program, data) - base[program] for program in (engine, other)]
 
 
 def measured(plain, base, datas, engine=ENGINE):
     """The means of both programs' instructions over some pairs, and how the pairs came out."""
-    ours, theirs, tally = [], [], dict.fromkeys(VERDICTS, 0)
+    counts, tally = [], dict.fromkeys(VERDICTS, 0)
     for data in datas:
         tally[same_line(plain, data, engine).split()[0].decode()] += 1
-        ours.append(instructions(engine, data) - base[engine])
-        theirs.append(instructions(plain, data) - base[plain])
-    return mean(ours), mean(theirs), tally
+        counts.append(both(plain, base, data, engine))
+    return *map(mean, zip(*counts)), tally
+
+
+def found(name):
+    """A pair that bench/dearest.py found."""
+    with open(os.path.join(ROOT, "bench", name), "rb") as file:
+        return file.read()
 
 
 def singles():
     """The pairs that have a line of their own."""
-    with open(os.path.join(ROOT, "bench", "dearest.pair"), "rb") as file:
-        dearest = file.read()
     return {
         "A pair that keeps the search busy": busy_pair(),
         "The same, different at the last input of the search alone": last_pair(),
-        "The dearest equal or turned pair on 16 qubits that `bench/dearest.py` found": dearest,
+        "The dearest equal or turned pair on 16 qubits and 64 variables that `bench/dearest.py` found": found("dearest.pair"),
+        "The dearest on 128 variables": found("dearest-128.pair"),
     }
 
 
+def gates_of(data):
+    """The gates of the record at the start of some bytes."""
+    return [tuple(data[at : at + 3]) for at in range(5, 5 + 3 * (data[3] + 256 * data[4]), 3)]
+
+
+def variables(data):
+    """The variables of a pair: its qubits, and the H gates of both lists."""
+    first = gates_of(data)
+    return data[2] + sum(kind == H for kind, _, _ in first + gates_of(data[5 + 3 * len(first) :]))
+
+
+def older_pairs():
+    """(name, pairs): the families, by their lengths, and the single pairs that have at most 64 variables."""
+    for name, family in FAMILIES.items():
+        for length in family.lengths:
+            yield f"{name}, {length} gates", [data for data in pairs(name, length, 1) if variables(data) <= 64]
+    for name, data in singles().items():
+        yield name, [data] if variables(data) <= 64 else []
+
+
+def before_table(before, engine):
+    """The means of the instructions of an older engine and of this one on the same pairs, and the sums over all these pairs."""
+    base = bases(before, engine)
+    lines = ["| pairs | before | now | now to before |", "|---|---|---|---|"]
+    everything = []
+    for name, datas in older_pairs():
+        counts = []
+        for data in datas:
+            same_line(before, data, engine)
+            counts.append(both(before, base, data, engine))
+        if not counts:
+            continue
+        everything += counts
+        now, then = map(mean, zip(*counts))
+        lines.append(f"| {name} | {then:,} | {now:,} | {now / then:.2f} |")
+        print(lines[-1], flush=True)
+    now, then = map(sum, zip(*everything))
+    return [*lines, f"| all {len(everything)} pairs together | {then:,} | {now:,} | {now / then:.2f} |"]
+
+
 def tables(plain, engine):
-    base = {program: instructions(program, 2 * record([], 1)) for program in (engine, plain)}
+    base = bases(engine, plain)
     lines = [f"| family | gates a list | engine | plain Rust | ratio | {' | '.join(VERDICTS)} |", "|---" * (5 + len(VERDICTS)) + "|"]
     growth, everything = {}, []
     for name, family in FAMILIES.items():
@@ -223,23 +285,36 @@ def arguments():
     return parser
 
 
-def main():
-    parser = arguments()
-    parser.add_argument("--write", action="store_true")
-    given = parser.parse_args()
+def against_plain(engine):
+    """The tables against the plain program, which is built first."""
     with tempfile.TemporaryDirectory() as folder:
         plain = os.path.join(folder, "plain")
         subprocess.run(["rustc", "--edition", "2021", "-O", "-o", plain, os.path.join(ROOT, "bench", "plain.rs")], check=True)
-        lines = tables(plain, given.engine)
+        return tables(plain, engine)
+
+
+def write(lines, start, end):
+    """The lines in place of what stands between two marks of docs/BENCHMARKS.md."""
+    path = os.path.join(ROOT, "docs", "BENCHMARKS.md")
+    with open(path) as old:
+        text = old.read()
+    head, mark, rest = text.partition(f"<!-- {start} -->\n")
+    _, last, tail = rest.partition(f"<!-- {end} -->\n")
+    if not mark or not last:
+        sys.exit(f"docs/BENCHMARKS.md has no place between <!-- {start} --> and <!-- {end} -->")
+    with open(path, "w") as out:
+        out.write(head + mark + "\n".join(lines) + "\n" + last + tail)
+
+
+def main():
+    parser = arguments()
+    parser.add_argument("--write", action="store_true")
+    parser.add_argument("--before", metavar="PROGRAM")
+    given = parser.parse_args()
+    lines = before_table(given.before, given.engine) if given.before else against_plain(given.engine)
     print("\n".join(lines))
     if given.write:
-        path = os.path.join(ROOT, "docs", "BENCHMARKS.md")
-        with open(path) as old:
-            text = old.read()
-        head, _, rest = text.partition("<!-- tables -->\n")
-        _, _, tail = rest.partition("<!-- end -->\n")
-        with open(path, "w") as out:
-            out.write(head + "<!-- tables -->\n" + "\n".join(lines) + "\n<!-- end -->\n" + tail)
+        write(lines, *(("before", "end before") if given.before else ("tables", "end")))
 
 
 if __name__ == "__main__":

@@ -1,12 +1,12 @@
 #!/usr/bin/env python3
-"""Looks for the dearest pair on 16 qubits that is equal or turned, with 512 gates a list and at most 48 H gates in both: a shared list into which
-blocks that do nothing, but for a power of ω, are inserted, other ones in each of the two lists. Such pairs are drawn in many mixes; then the
-dearest few are changed step by step in ways that keep them so, and the dearest kept.
+"""Looks for the dearest pair on 16 qubits that is equal or turned, with 512 gates a list and at most 64 variables, or 128, so at most 48 H gates in
+both lists, or 112: a shared list into which blocks that do nothing, but for a power of ω, are inserted, other ones in each of the two lists. Such
+pairs are drawn in many mixes; then the dearest few are changed step by step in ways that keep them so, and the dearest kept.
 
-    rt check compare && python3 bench/dearest.py [EVALUATIONS] [--engine PROGRAM]
+    rt check compare && python3 bench/dearest.py [EVALUATIONS] [--variables 128] [--engine PROGRAM]
 
-The dearest pair goes to bench/dearest.pair, two records one after the other, which bench/compare.py measures in a line of its own. What
-counts is the engine's instructions less those of an empty pair; a pair that comes out neither equal nor turned counts nothing. The same engine
+The dearest pair goes to bench/dearest.pair or bench/dearest-128.pair, two records one after the other, which bench/compare.py measures in a line of
+its own. What counts is the engine's instructions less those of an empty pair; a pair that comes out neither equal nor turned counts nothing. The same engine
 gives the same walk.
 """
 import copy
@@ -16,8 +16,10 @@ import random
 import compare as bench
 from compare import CX, CZ, H, SI, SWAP, S, T, TI, X, Z, parities, record
 
-QUBITS, LENGTH, HADAMARDS = 16, 512, 24
+QUBITS, LENGTH = 16, 512
 FEW = 4
+# the file of each number of variables
+FILES = {64: "dearest.pair", 128: "dearest-128.pair"}
 ORDERS = {X: 2, Z: 2, S: 4, SI: 4, T: 8, TI: 8, CX: 2, CZ: 2, SWAP: 2}
 
 
@@ -75,16 +77,17 @@ WITHOUT_H, WITH_H = [phases, stars, power, there_and_back], [twice, thrice]
 
 
 class Pair:
-    """A shared list, of which the first gates, the front, hold no H; the blocks of both lists, each with its place in the shared list; how
-    often each kind of block is drawn; and between how many CX gates at most."""
+    """How many H gates a list has at most; a shared list, of which the first gates, the front, hold no H; the blocks of both lists, each with its place in
+    the shared list; how often each kind of block is drawn; and between how many CX gates at most."""
 
-    def __init__(self, rng):
+    def __init__(self, rng, hadamards):
         """A random mix."""
+        self.hadamards = hadamards
         length = rng.choice((0, 10, 30, 60, 120, 240, 400))
         kinds = rng.choices((CX, CX, CZ, S, T, TI, X, SWAP), k=rng.randint(1, 5))
         self.shared = [gate(rng, rng.choice(kinds)) for _ in range(length)]
         self.front = rng.randint(0, length)
-        for place in rng.sample(range(self.front, length), min(length - self.front, rng.choice((0, 0, 6, 12, 18, 24)))):
+        for place in rng.sample(range(self.front, length), min(length - self.front, rng.choice((0, 0, 1, 2, 3, 4)) * hadamards // 4)):
             self.shared[place] = gate(rng, H)
         self.weights = {kind: rng.random() ** 3 for kind in WITHOUT_H + WITH_H}
         self.around = rng.choice((0, 1, 2, 4, 8))
@@ -132,7 +135,7 @@ class Pair:
                 if room < 0 or room == 1:
                     self.drop(rng, side)
                 else:
-                    self.insert(rng, side, self.fitting(rng, room, HADAMARDS - number(self.gates(side), H)))
+                    self.insert(rng, side, self.fitting(rng, room, self.hadamards - number(self.gates(side), H)))
 
     def changed(self, rng):
         """A pair like this one, with some small changes."""
@@ -190,13 +193,14 @@ def cost(engine, base, pair):
     return bench.instructions(engine, data) - base
 
 
-def search(engine, evaluations):
-    """The dearest pair: one evaluation in four is of a random mix, the others of changes of the few dearest pairs so far."""
+def search(engine, evaluations, hadamards):
+    """The dearest pair with so many H gates a list at most: one evaluation in four is of a random mix, the others of changes of the few dearest pairs so
+    far."""
     rng = random.Random(20261116)
     base = bench.instructions(engine, 2 * record([], 1))
     best = []
     for i in range(evaluations):
-        pair = Pair(rng) if i < max(FEW, evaluations // 4) else rng.choice(best)[1].changed(rng)
+        pair = Pair(rng, hadamards) if i < max(FEW, evaluations // 4) else rng.choice(best)[1].changed(rng)
         best.append((cost(engine, base, pair), pair))
         best.sort(key=lambda item: -item[0])
         if best[0][1] is pair:
@@ -208,9 +212,10 @@ def search(engine, evaluations):
 def main():
     parser = bench.arguments()
     parser.add_argument("evaluations", type=int, nargs="?", default=600)
+    parser.add_argument("--variables", type=int, choices=FILES, default=64)
     given = parser.parse_args()
-    pair = search(given.engine, given.evaluations)
-    with open(os.path.join(bench.ROOT, "bench", "dearest.pair"), "wb") as out:
+    pair = search(given.engine, given.evaluations, (given.variables - QUBITS) // 2)
+    with open(os.path.join(bench.ROOT, "bench", FILES[given.variables]), "wb") as out:
         out.write(pair.record())
 
 

@@ -2,14 +2,16 @@
 // input, the second directly after the first, and prints the result line; it makes no checks.
 use std::io::Read;
 
-type Terms = Vec<(u64, u8)>;
+// A set of at most 128 variables.
+type Set = u128;
+type Terms = Vec<(Set, u8)>;
 
 struct Sum {
     n: usize,
-    wires: Vec<(u64, bool)>,
+    wires: Vec<(Set, bool)>,
     constant: u8,
     terms: Terms,
-    live: u64,
+    live: Set,
     next: u32,
 }
 
@@ -37,7 +39,7 @@ impl Sum {
         }
     }
 
-    fn put(&mut self, c: u8, w: (u64, bool)) {
+    fn put(&mut self, c: u8, w: (Set, bool)) {
         if w.1 {
             self.constant = (self.constant + c) % 8;
             self.terms.push((w.0, 8 - c));
@@ -46,7 +48,7 @@ impl Sum {
         }
     }
 
-    fn product(&mut self, u: (u64, bool), v: (u64, bool)) {
+    fn product(&mut self, u: (Set, bool), v: (Set, bool)) {
         self.put(2, u);
         self.put(2, v);
         self.put(6, (u.0 ^ v.0, u.1 != v.1));
@@ -67,7 +69,7 @@ impl Sum {
             5 => self.put(1, w),
             6 => self.put(7, w),
             7 => {
-                let new = (1u64 << self.next, false);
+                let new = (1 << self.next, false);
                 self.live |= new.0;
                 self.next += 1;
                 self.product(w, new);
@@ -86,8 +88,8 @@ impl Sum {
     }
 
     // z replaced in the terms, unmerged.
-    fn replace_terms(&mut self, z: u32, p: (u64, bool)) {
-        let bit = 1u64 << z;
+    fn replace_terms(&mut self, z: u32, p: (Set, bool)) {
+        let bit: Set = 1 << z;
         for t in self.terms.iter_mut() {
             if t.0 & bit != 0 {
                 t.0 ^= bit ^ p.0;
@@ -100,8 +102,8 @@ impl Sum {
         self.live &= !bit;
     }
 
-    fn replace_wires(&mut self, z: u32, p: (u64, bool)) {
-        let bit = 1u64 << z;
+    fn replace_wires(&mut self, z: u32, p: (Set, bool)) {
+        let bit: Set = 1 << z;
         for w in self.wires.iter_mut() {
             if w.0 & bit != 0 {
                 w.0 ^= bit ^ p.0;
@@ -111,14 +113,14 @@ impl Sum {
     }
 
     fn take_out(&mut self, y: u32) {
-        let bit = 1u64 << y;
+        let bit: Set = 1 << y;
         for t in self.terms.iter_mut() {
             t.0 &= !bit;
         }
         self.live &= !bit;
     }
 
-    fn phase(&self, x: u64) -> u8 {
+    fn phase(&self, x: Set) -> u8 {
         let mut sum = self.constant;
         for t in &self.terms {
             if (t.0 & x).count_ones() % 2 == 1 {
@@ -129,7 +131,7 @@ impl Sum {
         sum
     }
 
-    fn search(&self) -> u64 {
+    fn search(&self) -> Set {
         let base = self.phase(0);
         let n = self.n;
         for i in 0..n {
@@ -164,11 +166,11 @@ struct Counts {
     joins: u32,
 }
 
-fn say(verdict: &str, a: u64, b: u64, c: &Counts, left: u32) {
+fn say(verdict: &str, a: Set, b: Set, c: &Counts, left: u32) {
     println!("{verdict} {a} {b} {} {} {} {} {left}", c.pins, c.sums, c.turns, c.joins);
 }
 
-fn blocked(set: u64, flipped: bool, c: &Counts, left: u32) {
+fn blocked(set: Set, flipped: bool, c: &Counts, left: u32) {
     let input = if flipped { 0 } else { set & set.wrapping_neg() };
     say("different", input, input, c, left);
 }
@@ -195,8 +197,8 @@ fn compare(s: &mut Sum) {
             return say("undecided", 0, 0, &c, s.live.count_ones());
         }
         let y = ready.trailing_zeros();
-        let bit = 1u64 << y;
-        let (mut sum, mut l) = (0u32, 0u64);
+        let bit: Set = 1 << y;
+        let (mut sum, mut l) = (0u32, 0);
         for t in s.terms.iter().filter(|t| t.0 & bit != 0) {
             sum += t.1 as u32;
             if t.1 / 2 % 2 == 1 {
@@ -233,7 +235,7 @@ fn compare(s: &mut Sum) {
     let power = (8 - s.constant) % 8;
     match (s.search(), power) {
         (0, 0) => say("equal", 0, 0, &c, 0),
-        (0, _) => say("turned", power as u64, 0, &c, 0),
+        (0, _) => say("turned", power as Set, 0, &c, 0),
         (x, _) => say("different", 0, x, &c, 0),
     }
 }
