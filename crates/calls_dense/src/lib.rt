@@ -1,4 +1,5 @@
 // The dense comparison, by a row. The numbers say how many of the places are lent, and with what all of them begin.
+#![tactic(auto)]
 mod numbers;
 
 use calls_lists::{Lists, MOST_BYTES, lists_of};

@@ -1,4 +1,5 @@
 // The joins, by a row. The numbers say how many bytes of the buffer are lent, and with what all of them begin.
+#![tactic(auto)]
 use calls_lists::{Lists, MOST_BYTES, lists_of, refusals};
 use calls_text::{are_numbers, front, number, plus, print, workspaces};
 use joining::{Joined, Refusal};

@@ -2,6 +2,7 @@
 // a list of gates on n qubits, which is built by start and add. `2:h0 t1 c01` is H on qubit 0, T on 1 and CX from 0 to 1: for each gate a
 // letter, a qubit in hexadecimal and, for a gate on two qubits, the second; one space between two. The letters: x y z s t h, r and u for the
 // inverses of S and T, c for CX, k for CZ, w for SWAP.
+#![tactic(auto)]
 pub mod refusals;
 
 use calls_text::{Bytes, NO_DIGIT, byte, digit};

@@ -1,5 +1,6 @@
 // The calls on a pair, compare and pick, and how a verdict and a pair's refusal are printed. The numbers say how many words and bytes of the
 // workspaces are lent, and with what all their places begin.
+#![tactic(auto)]
 use calls_lists::{Lists, MOST_BYTES, lists_of, refusals};
 use calls_text::{are_numbers, byte, front, number, print, workspaces};
 use comparison::{Answer, Outcome, Refusal};

@@ -2,6 +2,7 @@
 // each names a file that is exactly one record. With none both records are read from standard input, the second directly after the
 // first. Where an input cannot be read, nothing is printed but a message on standard error. What is printed for which bytes is said by
 // `compare_bytes`.
+#![tactic(auto)]
 use compare_bytes::{write_pair, write_stream};
 use line_bytes::LINE_SIZE;
 use pair_input::{INPUT_SIZE, STREAM_SIZE, Source, find_source, print, read_argument, read_stream};

@@ -1,4 +1,5 @@
 // The comparison layer, judging: the verdict on where the reduction ended, with its two inputs and the counts. Document 01, "Reducing it".
+#![tactic(auto)]
 ghost use Rattle.std.specs.Prelude.{◌≡◌, ℕ, ◌≤◌, Bool, List, length};
 ghost use Rattle.phase_sum_types.specs.Workspace.{sets_at, places_in, parity_of, Lent, slices};
 ghost use Rattle.comparison_meaning.specs.Verdict.{blocked_input, result, searched, judge};

@@ -1,6 +1,7 @@
 // Two gate lists joined into one record, as licensees call it: document 02, item 5. In time the second list runs after the first, over the same
 // qubits; in space it stands beside it, on qubits numbered after the first's. Every call takes any bytes, refuses by number what is bad, and
 // then changes no byte that it was lent. All that is public here is a call, an answer or its number.
+#![tactic(auto)]
 ghost use Rattle.std.specs.Prelude.{◌≡◌};
 ghost use Rattle.joining_types.specs.Call.{joined_answer, join_in_time, join_in_space};
 ghost use Rattle.joining_types.specs.Clauses.{InTime, InSpace, WhereWritten};

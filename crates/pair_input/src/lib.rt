@@ -1,6 +1,7 @@
 // What the programs read and print. With two arguments each names a file that is exactly one record. With none both records come from standard
 // input, the second directly after the first. Where an input cannot be read or the line cannot be written, a message on standard error says
 // why, after the program's own name.
+#![tactic(auto)]
 mod reading;
 
 use libc::{STDERR_FILENO, STDOUT_FILENO};

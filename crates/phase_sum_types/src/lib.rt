@@ -4,6 +4,7 @@
 //
 // The functions of the layer that have a `requires` ask for variables below the most that a set can hold, for as many places as terms, or, for
 // building, for gates within n, no more variables than a set can hold and places for the room of the gates. Their callers' proofs meet that.
+#![tactic(auto)]
 
 // A set of variables in two words, the low variables first: variable v is in it where bit v % WORD_BITS of word v / WORD_BITS is 1.
 #[derive(Drop)]

@@ -1,5 +1,6 @@
 // Runs the phase-sum layer on rows from standard input and prints what each gives. tests/phase_sum_rows.py writes the rows and,
 // by an independent computation, what must be printed.
+#![tactic(auto)]
 mod operations;
 mod pair;
 mod print;

@@ -1,4 +1,5 @@
 // The record layer, its leaves: two-byte numbers, the mark, one gate's three bytes, and the number of a refusal.
+#![tactic(auto)]
 ghost use Rattle.std.specs.Prelude.{◌≡◌, ◌/◌, ◌%◌, ◌≤◌, length};
 ghost use Rattle.record_format.specs.Format.{from_bytes};
 ghost use Rattle.record_format.specs.Gate.{raw, inverse_number};

@@ -4,6 +4,7 @@
 // A row: NAME;CALL;NUMBERS;FIRST;SECOND, all five of them. NUMBERS are decimal, one space between two. FIRST and SECOND are bytes in
 // hexadecimal, or a list of gates on n qubits, as `2:h0 t1 c01` (calls_lists). What is printed: the name, what the call answered, and what
 // the lent buffer holds afterwards. A row that cannot be read prints `bad row`.
+#![tactic(auto)]
 mod calls;
 mod names;
 mod readers;

@@ -11,7 +11,7 @@ use mathlib.Core.Option.{none}
 use mathlib.Core.List.{List, [], ◌∷◌, ◌++◌, map, append-nil, append_assoc}
 use lib.Seq.{take-add, take_at}
 use lib.ListN.{length, get_or, take, length-append, length-map, length-take, length-drop}
-use lib.Dec.{ltb, leb, eqb, lit<, lit≤}
+use lib.Dec.{T as IsSo, ltb, leb, eqb, lit<, lit≤}
 use borrow.Author.Tests.{ltb-false, leb-true, leb-false, eqb-true, eqb-false, not-false, le-ltb, lt-leb, lt-ltb, ne_eqb}
 use Rattle.record_format.specs.Format.{list_mark, head_size, gate_size, most_qubits, most_gates, last_one_qubit, last_kind, no_qubit, from_bytes, Bytes}
 use Rattle.record_format.specs.Gate.{Gate, OneQubit, X, Y, Z, S, S†, T, T†, H, TwoQubit, CX, CZ, SWAP, one, two, Within, AllWithin, one_qubit_kinds, two_qubit_kinds, Raw, raw, gate_of, one_qubit_kind, two_qubit_kind, gate_bytes, body_bytes, inverse_kind, inverse_number, inverse_gate, inverse_list}
@@ -55,8 +55,8 @@ raw_of (two v a b) = raw (two_qubit_kind v) a b
 -- a gate's bytes stand for that gate
 gate_back : (g : Gate) → gate_of (raw_of g) ≡ g
 unfolding gate_of one_qubit_kind two_qubit_kind
-gate_back (one u a) = elim u [ X ↦ refl | Y ↦ refl | Z ↦ refl | S ↦ refl | S† ↦ refl | T ↦ refl | T† ↦ refl | H ↦ refl ]
-gate_back (two v a b) = elim v [ CX ↦ refl | CZ ↦ refl | SWAP ↦ refl ]
+gate_back (one u a) = elim u as (λ k. gate_of (raw_of (one k a)) ≡ one k a) [ X ↦ refl | Y ↦ refl | Z ↦ refl | S ↦ refl | S† ↦ refl | T ↦ refl | T† ↦ refl | H ↦ refl ]
+gate_back (two v a b) = elim v as (λ k. gate_of (raw_of (two k a b)) ≡ two k a b) [ CX ↦ refl | CZ ↦ refl | SWAP ↦ refl ]
 
 -- a gate's bytes are read first
 pub raws-gate : (g : Gate) (rest : List ℕ) → raws (gate_bytes g ++ rest) ≡ raw_of g ∷ raws rest
@@ -130,12 +130,12 @@ good_raw n i r h = go (leb r.kind last_one_qubit) refl ((none_holds (gate_rows n
 -- kinds on one qubit have numbers up to 7
 one_low : (u : OneQubit) → one_qubit_kind u ≤ last_one_qubit
 unfolding one_qubit_kind
-one_low u = lit≤ (elim u [ X ↦ tt | Y ↦ tt | Z ↦ tt | S ↦ tt | S† ↦ tt | T ↦ tt | T† ↦ tt | H ↦ tt ])
+one_low u = lit≤ (elim u as (λ k. IsSo (leb (one_qubit_kind k) last_one_qubit)) [ X ↦ tt | Y ↦ tt | Z ↦ tt | S ↦ tt | S† ↦ tt | T ↦ tt | T† ↦ tt | H ↦ tt ])
 
 -- kinds on two qubits have numbers from 8 to 10
 two_high : (v : TwoQubit) → (last_one_qubit < two_qubit_kind v) × (two_qubit_kind v ≤ last_kind)
 unfolding two_qubit_kind
-two_high v = (lit≤ (elim v [ CX ↦ tt | CZ ↦ tt | SWAP ↦ tt ]), lit≤ (elim v [ CX ↦ tt | CZ ↦ tt | SWAP ↦ tt ]))
+two_high v = (lit≤ (elim v as (λ k. IsSo (leb 8 (two_qubit_kind k))) [ CX ↦ tt | CZ ↦ tt | SWAP ↦ tt ]), lit≤ (elim v as (λ k. IsSo (leb (two_qubit_kind k) last_kind)) [ CX ↦ tt | CZ ↦ tt | SWAP ↦ tt ]))
 
 -- the bytes of a gate within n are stopped by no row
 pub good_gate : (n i : ℕ) (g : Gate) → Within n g → first (gate_rows n i (raw_of g)) ≡ none
@@ -261,8 +261,8 @@ encode-appended s r i good new =
 inverse-gate : (g : Gate) (rest : List ℕ) → inverse_bytes (gate_bytes g ++ rest) ≡ inverse_bytes rest ++ gate_bytes (inverse_gate g)
 unfolding inverse_bytes gate_bytes inverse_gate inverse_number inverse_kind one_qubit_kind two_qubit_kind
 inverse-gate (one u a) rest =
-    elim u [ X ↦ refl | Y ↦ refl | Z ↦ refl | S ↦ refl | S† ↦ refl | T ↦ refl | T† ↦ refl | H ↦ refl ]
-inverse-gate (two v a b) rest = elim v [ CX ↦ refl | CZ ↦ refl | SWAP ↦ refl ]
+    elim u as (λ k. inverse_bytes (gate_bytes (one k a) ++ rest) ≡ inverse_bytes rest ++ gate_bytes (inverse_gate (one k a))) [ X ↦ refl | Y ↦ refl | Z ↦ refl | S ↦ refl | S† ↦ refl | T ↦ refl | T† ↦ refl | H ↦ refl ]
+inverse-gate (two v a b) rest = elim v as (λ k. inverse_bytes (gate_bytes (two k a b) ++ rest) ≡ inverse_bytes rest ++ gate_bytes (inverse_gate (two k a b))) [ CX ↦ refl | CZ ↦ refl | SWAP ↦ refl ]
 
 -- the inverse of gates, in bytes
 inverse-body : (gs : List Gate) → body_bytes (inverse_list gs) ≡ inverse_bytes (body_bytes gs)

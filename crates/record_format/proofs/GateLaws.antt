@@ -21,7 +21,7 @@ inverse_snoc gs g = rw (map-append, reverse-append)
 -- a gate inverted twice
 inverse-gate_twice : (g : Gate) → inverse_gate (inverse_gate g) ≡ g
 unfolding inverse_gate inverse_kind
-inverse-gate_twice (one u a) = elim u [ X ↦ refl | Y ↦ refl | Z ↦ refl | S ↦ refl | S† ↦ refl | T ↦ refl | T† ↦ refl | H ↦ refl ]
+inverse-gate_twice (one u a) = elim u as (λ k. inverse_gate (inverse_gate (one k a)) ≡ one k a) [ X ↦ refl | Y ↦ refl | Z ↦ refl | S ↦ refl | S† ↦ refl | T ↦ refl | T† ↦ refl | H ↦ refl ]
 inverse-gate_twice (two v a b) = refl
 
 -- gates inverted twice

@@ -1,6 +1,7 @@
 // The record layer, its base: gate-list and report records as bytes (document 01, "Gate lists as bytes", "Report, pick, builder", "Where a
 // call is turned down"; document 02, item 1). Here stand the format's definitions and laws, and the types of the answers. Licensees use
 // `records`.
+#![tactic(auto)]
 pub mod gate;
 
 // The bytes of a record's head: mark, n, g.

@@ -1,6 +1,7 @@
 // Gate-list and report records as licensees use them: document 01, "Gate lists as bytes", "Report, pick, builder", "Where a call is turned
 // down". Every call takes any bytes, refuses by number what is bad, and then changes no byte that it was lent. The crates record_* below have
 // the code, its contracts and what they cite.
+#![tactic(auto)]
 pub use record_bytes::number;
 pub use record_format::{Checked, Refusal, Report, ReportRead, Written};
 pub use record_reading::{check, gates};
