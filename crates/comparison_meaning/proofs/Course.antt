@@ -14,7 +14,7 @@ use Rattle.record_format.specs.Gate.{Gate, AllWithin}
 use Rattle.phase_sum_meaning.specs.Parity.{Parity}
 use Rattle.phase_sum_meaning.specs.Building.{PathSum}
 use Rattle.phase_sum_meaning.specs.Stepping.{take_out, turned, Kind, sum, turn, constraint, kind_of}
-use Rattle.comparison_meaning.specs.Reduction.{Counts, counts, End, stops, blocks}
+use Rattle.comparison_meaning.specs.Reduction.{Counts, End, stops, blocks}
 use Rattle.comparison_meaning.specs.Steps.{Ready, c_of, l_of, Step, sums, turns, joins, Blocked}
 use Rattle.comparison_meaning.specs.Verdict.{Verdict, undecided, Result, result, left, power, judge, searched, miter, pinned_of, reduced_of, compare}
 use Rattle.comparison_meaning.specs.Course.{Lowest, PathVariable, Pins, every_qubit, pins, agrees, unpinnable, TakesLowest, Reduces, none_ready, obstructed, steps_on, Continues, further, halted, Stuck, Judged, blocked, unready, unsized, found, same, rotated, Shown, shows, Course}
