@@ -2,12 +2,8 @@
 -- Assumes nothing.
 use Rattle.phase_sum_types.specs.Workspace.{set_of}
 use Rattle.phase_sum_types.proofs.TwoWords.{pair_none}
-use Rattle.phase_sum_sets.proofs.empty.Statement.{statement}
-use Rattle.phase_sum_sets.proofs.empty.Tie as tie
+use Rattle.phase_sum_sets.proofs.empty.Goals as goal
 
-returns : tie.Need-returns
+pub returns : goal.returns
 unfolding set_of
 returns c = pair_none
-
-pub empty_spec : {M : Type 1} → statement M
-empty_spec = tie.close (tie.spec returns)

@@ -7,24 +7,18 @@ use native.Mathlib.Omega.{arith}
 use Rattle.phase_sum_words.specs.Words.{wide}
 use Rattle.phase_sum_words.proofs.WideOrder.{leb_same, leb_other, wide_one}
 use Rattle.phase_sum_types.specs.Workspace.{set_of}
-use Rattle.phase_sum_sets.proofs.at_most.Statement.{statement}
-use Rattle.phase_sum_sets.proofs.at_most.Tie as tie
+use Rattle.phase_sum_sets.proofs.at_most.Goals as goal
 
-returns : tie.Need-returns
+pub returns-then-a-b : goal.returns-then-a-b
 unfolding set_of
-returns c =
-    let a = c.before.before.before.before.before.args.a in
-    let b = c.before.before.before.before.before.args.b in
+returns-then-a-b c = let a = c.args.a in
+    let b = c.args.b in
     sym (leb_same a.low b.low (a.high ∷ []) (b.high ∷ []) (ap (λ (h : ℕ). wide (h ∷ [])) (omega arith)))
 
-returns-2 : tie.Need-returns-2
+pub returns : goal.returns
 unfolding set_of
-returns-2 c =
-    let a = c.before.before.before.before.before.args.a in
-    let b = c.before.before.before.before.before.args.b in
+returns c = let a = c.args.a in
+    let b = c.args.b in
     let other : wide (a.high ∷ []) ≡ wide (b.high ∷ []) → ⊥ =
     λ e. absurd (omega (arith, sym (wide_one a.high) ∙ (e ∙ wide_one b.high))) in
     sym (leb_other a.low b.low (a.high ∷ []) (b.high ∷ []) (omega arith) (omega arith) other ∙ rw (wide_one a.high, wide_one b.high))
-
-pub at_most_spec : {M : Type 1} → statement M
-at_most_spec = tie.close (tie.spec returns returns-2)

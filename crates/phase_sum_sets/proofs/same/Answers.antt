@@ -7,24 +7,18 @@ use native.Mathlib.Omega.{arith}
 use Rattle.phase_sum_words.specs.Words.{wide}
 use Rattle.phase_sum_words.proofs.WideOrder.{eqb_same, eqb_other, wide_one}
 use Rattle.phase_sum_types.specs.Workspace.{set_of}
-use Rattle.phase_sum_sets.proofs.same.Statement.{statement}
-use Rattle.phase_sum_sets.proofs.same.Tie as tie
+use Rattle.phase_sum_sets.proofs.same.Goals as goal
 
-returns : tie.Need-returns
+pub returns-then-a-b : goal.returns-then-a-b
 unfolding set_of
-returns c =
-    let a = c.before.before.before.args.a in
-    let b = c.before.before.before.args.b in
+returns-then-a-b c = let a = c.args.a in
+    let b = c.args.b in
     let other : wide (a.high ∷ []) ≡ wide (b.high ∷ []) → ⊥ =
     λ e. absurd (omega (arith, sym (wide_one a.high) ∙ (e ∙ wide_one b.high))) in
     sym (eqb_other a.low b.low (a.high ∷ []) (b.high ∷ []) (omega arith) (omega arith) other)
 
-returns-2 : tie.Need-returns-2
+pub returns : goal.returns
 unfolding set_of
-returns-2 c =
-    let a = c.before.before.before.before.before.args.a in
-    let b = c.before.before.before.before.before.args.b in
+returns c = let a = c.args.a in
+    let b = c.args.b in
     sym (eqb_same a.low b.low (a.high ∷ []) (b.high ∷ []) (omega arith) (omega arith) (ap (λ (h : ℕ). wide (h ∷ [])) (omega arith)))
-
-pub same_spec : {M : Type 1} → statement M
-same_spec = tie.close (tie.spec returns returns-2)

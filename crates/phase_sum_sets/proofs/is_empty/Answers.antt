@@ -10,25 +10,19 @@ use Rattle.phase_sum_words.specs.Words.{word_bits, wide}
 use Rattle.phase_sum_words.proofs.WideOrder.{eqb_same, eqb_other, wide_one}
 use Rattle.phase_sum_types.specs.Workspace.{set_of}
 use Rattle.phase_sum_types.proofs.TwoWords.{pair_none}
-use Rattle.phase_sum_sets.proofs.is_empty.Statement.{statement}
-use Rattle.phase_sum_sets.proofs.is_empty.Tie as tie
+use Rattle.phase_sum_sets.proofs.is_empty.Goals as goal
 
-returns : tie.Need-returns
+pub returns-then-s-eq0 : goal.returns-then-s-eq0
 unfolding set_of
-returns c =
-    let s = c.before.before.before.args.s in
+returns-then-s-eq0 c = let s = c.args.s in
     sym
     (ap (eqb (wide (s.low ∷ s.high ∷ []))) (sym pair_none)
     ∙ eqb_same s.low 0 (s.high ∷ []) (0 ∷ []) (omega arith) (pow_pos word_bits) (ap (λ (h : ℕ). wide (h ∷ [])) (omega arith)))
 
-returns-2 : tie.Need-returns-2
+pub returns : goal.returns
 unfolding set_of
-returns-2 c =
-    let s = c.before.before.args.s in
+returns c = let s = c.args.s in
     let other : wide (s.high ∷ []) ≡ wide (0 ∷ []) → ⊥ = λ e. absurd (omega (arith, sym (wide_one s.high) ∙ (e ∙ wide_one 0))) in
     sym
     (ap (eqb (wide (s.low ∷ s.high ∷ []))) (sym pair_none)
     ∙ eqb_other s.low 0 (s.high ∷ []) (0 ∷ []) (omega arith) (pow_pos word_bits) other)
-
-pub is_empty_spec : {M : Type 1} → statement M
-is_empty_spec = tie.close (tie.spec returns returns-2)

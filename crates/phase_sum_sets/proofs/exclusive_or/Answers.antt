@@ -3,15 +3,10 @@
 use native.Mathlib.Omega.{arith}
 use Rattle.phase_sum_types.specs.Workspace.{set_of}
 use Rattle.phase_sum_types.proofs.TwoWords.{pair_xor}
-use Rattle.phase_sum_sets.proofs.exclusive_or.Statement.{statement}
-use Rattle.phase_sum_sets.proofs.exclusive_or.Tie as tie
+use Rattle.phase_sum_sets.proofs.exclusive_or.Goals as goal
 
-returns : tie.Need-returns
+pub returns : goal.returns
 unfolding set_of
-returns c =
-    let a = c.before.before.before.before.args.a in
-    let b = c.before.before.before.before.args.b in
+returns c = let a = c.args.a in
+    let b = c.args.b in
     pair_xor a.low a.high (omega arith) (omega arith) b.low b.high (omega arith) (omega arith)
-
-pub exclusive_or_spec : {M : Type 1} → statement M
-exclusive_or_spec = tie.close (tie.spec returns)

@@ -3,15 +3,10 @@
 use native.Mathlib.Omega.{arith}
 use Rattle.phase_sum_types.specs.Workspace.{set_of}
 use Rattle.phase_sum_types.proofs.TwoWords.{pair_or}
-use Rattle.phase_sum_sets.proofs.union.Statement.{statement}
-use Rattle.phase_sum_sets.proofs.union.Tie as tie
+use Rattle.phase_sum_sets.proofs.union.Goals as goal
 
-returns : tie.Need-returns
+pub returns : goal.returns
 unfolding set_of
-returns c =
-    let a = c.before.before.before.before.args.a in
-    let b = c.before.before.before.before.args.b in
+returns c = let a = c.args.a in
+    let b = c.args.b in
     pair_or a.low a.high (omega arith) (omega arith) b.low b.high (omega arith) (omega arith)
-
-pub union_spec : {M : Type 1} → statement M
-union_spec = tie.close (tie.spec returns)

@@ -6,14 +6,9 @@ use native.Mathlib.Omega.{arith}
 use Rattle.phase_sum_words.proofs.Word.{parity_counted}
 use Rattle.phase_sum_words.proofs.Variables.{parity_low}
 use Rattle.phase_sum_types.specs.Workspace.{set_of}
-use Rattle.phase_sum_sets.proofs.parity.Statement.{statement}
-use Rattle.phase_sum_sets.proofs.parity.Tie as tie
+use Rattle.phase_sum_sets.proofs.parity.Goals as goal
 
-returns : tie.Need-returns
+pub returns : goal.returns
 unfolding set_of
-returns c =
-    let a = c.before.args in
+returns c = let a = c.args in
     parity_counted a.s.low a.input ∙ sym (parity_low a.s.low (a.s.high ∷ []) a.input (omega arith) (omega arith))
-
-pub parity_spec : {M : Type 1} → statement M
-parity_spec = tie.close (tie.spec returns)
