@@ -1,5 +1,6 @@
 // The dense layer, columns: exact amplitudes in a lent slice, four numbers an amplitude, read and changed in place.
 #![tactic(auto)]
+
 ghost use Rattle.std.specs.Prelude.{◌≡◌, ◌+◌, ◌*◌, ◌^◌, ◌<◌, ◌≤◌, length, replicate, pos};
 ghost use Rattle.amplitude.specs.Number.{ω^};
 ghost use Rattle.amplitude.specs.Bits.{bit};

@@ -1,5 +1,6 @@
 // The dense layer, one-qubit gates: each on a column of n qubits, in place, in one pass over its places.
 #![tactic(auto)]
+
 ghost use Rattle.std.specs.Prelude.{◌≡◌, ℕ, ◌+◌, ◌*◌, ◌^◌, ◌<◌, ◌≤◌, false, eqb, length};
 ghost use Rattle.record_format.specs.Gate.{one};
 ghost use Rattle.amplitude.specs.Bits.{put};

@@ -1,6 +1,7 @@
 // The dense layer, judging: one column of each list at a time in the halves of a buffer, compared for the powers of ω. Column 0 fits at
 // most one power, so that later columns are tried for this one alone.
 #![tactic(auto)]
+
 ghost use Rattle.std.specs.Prelude.{◌≡◌, ℕ, ◌*◌, ◌^◌, ◌<◌, ◌≤◌, true, false, length, replicate, pos};
 ghost use Rattle.record_format.specs.Reading.{gates_in};
 ghost use Rattle.amplitude.specs.Testing.{carries_state};

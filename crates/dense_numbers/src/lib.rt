@@ -1,6 +1,7 @@
 // The dense layer, numbers: exact amplitudes as four signed whole numbers, the coefficients of 1, ω, ω² and ω³ (document 01, "Amplitudes").
 // Every function is given numbers of bounded size, and none overflows.
 #![tactic(auto)]
+
 ghost use Rattle.std.specs.Prelude.{◌≡◌, ◌≤◌, ◌<◌};
 ghost use Rattle.amplitude.specs.Number.{1ω, ◌+ω◌, neg, mulω, ω^, mul√2, √2^};
 ghost use Rattle.amplitude.specs.Testing.{eqω};

@@ -1,5 +1,6 @@
 // The dense layer, running: a list on a column, gate by gate, from its input on.
 #![tactic(auto)]
+
 ghost use Rattle.std.specs.Prelude.{◌≡◌, ◌+◌, ◌*◌, ◌%◌, ◌^◌, ◌<◌, ◌≤◌, length};
 ghost use Rattle.record_format.specs.Gate.{Within, AllWithin, gate_of, raw};
 ghost use Rattle.record_format.specs.Reading.{gates_in};

@@ -1,6 +1,7 @@
 // The dense layer, turns and exchanges: the gates that only turn amplitudes or exchange them, on a column of n qubits, in place, in one pass
 // over its places.
 #![tactic(auto)]
+
 ghost use Rattle.std.specs.Prelude.{◌≡◌, ◌≢◌, ℕ, ◌*◌, ◌^◌, ◌<◌, ◌≤◌, false, length};
 ghost use Rattle.record_format.specs.Gate.{two, CX, CZ, SWAP};
 ghost use Rattle.amplitude.specs.Bits.{put};

@@ -1,0 +1,13 @@
+-- `dense_judging::fits` meets its contract: each half has the places of six qubits.
+-- Assumes nothing.
+use native.Mathlib.Omega.{arith}
+use lib.ListN.{length-take, length-drop}
+use Rattle.dense_columns.proofs.Places.{few_places}
+use Rattle.dense_judging.proofs.fits.Goals as goal
+
+pub slice_bounds-carries-end : goal.slice_bounds-carries-end
+slice_bounds-carries-end c = simp length-take (omega arith)
+
+pub carries-requires : goal.carries-requires
+carries-requires c = let room = few_places c.args.n c.requires.0 in
+    (c.requires.0, c.requires.1, simp length-take (omega arith), simp (length-take, length-drop) (omega arith), c.requires.3)

@@ -1,0 +1,28 @@
+-- `dense_turning::apply_cx` meets its contract: after w turns every pair whose lower place is below w is done, and no other.
+-- Assumes nothing.
+use mathlib.Core.Path.{◌≡◌, ◌∙◌}
+use mathlib.Core.Bool.{false}
+use Prim.Native.Nat.{◌^◌}
+use native.Mathlib.Omega.{arith}
+use Rattle.record_format.specs.Gate.{two, CX}
+use Rattle.amplitude.specs.Bits.{put}
+use Rattle.amplitude.specs.Circuit.{apply}
+use Rattle.amplitude.proofs.BitLaws.{put_below}
+use Rattle.dense_columns.specs.Columns.{amplitude_at}
+use Rattle.dense_columns.proofs.Passes.{pass_turn, pass_end}
+use Rattle.dense_turning.proofs.Local.{cx_local}
+use Rattle.dense_turning.proofs.apply_cx.Goals as goal
+
+pub loop-w-preserved : goal.loop-w-preserved
+loop-w-preserved c = let l = c.loop-w in (
+  omega (arith, c.power-end.ensures),
+  c.apply_cx_at.auto.column ∙ l.invariant.1,
+  pass_turn c.args.n (put c.args.b false) (apply (two CX c.args.a c.args.b)) (amplitude_at c.args.column.now) l.w l.column c.apply_cx_at.new.column
+      (cx_local c.args.n c.args.a c.args.b c.requires.1) l.invariant.2 c.apply_cx_at.ensures,
+)
+
+pub returns : goal.returns
+returns c = let l = c.loop-w in
+    let e : l.w ≡ 2 ^ c.args.n = omega (arith, c.power-end.ensures) in
+    pass_end c.args.n (put c.args.b false) (apply (two CX c.args.a c.args.b)) (amplitude_at c.args.column.now) l.column
+    (λ u b. put_below c.args.n c.args.b false u c.requires.1 b) (rw e at l.invariant.2)
