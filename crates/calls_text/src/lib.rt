@@ -1,6 +1,7 @@
 // Rows of text: lines of the input, rows taken apart, what they print, and the workspaces that they lend: parts between separators, decimal numbers, bytes in
 // hexadecimal. Past its end a text holds spaces, so that no function asks anything of its caller.
 #![tactic(auto)]
+
 pub mod lines;
 pub mod print;
 pub mod workspaces;

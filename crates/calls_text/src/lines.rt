@@ -1,6 +1,7 @@
 // Lines of the input, which comes in pieces: a line is put into a buffer, byte by byte, until its end has come. And what every row begins with.
 use crate::{byte, front, part, parts, plus, print, put};
-use libc::STDIN_FILENO;
+use std::io;
+use std::io::{Read, Write};
 use std::num::wrapping_add_usize;
 
 // The bytes that a row has at most.
@@ -40,18 +41,18 @@ fn empty(lines: Lines) -> Lines {
 }
 
 // With a byte to read, where the input has one: in the present piece, or in the next.
-fn filled(lines: Lines, piece: &mut [u8]) -> Lines {
+fn filled(lines: Lines, input: &mut impl Read, piece: &mut [u8]) -> io::Result<Lines> {
     if lines.at < lines.end {
-        return lines;
+        return Ok(lines);
     }
-    let got = io::read_full(STDIN_FILENO, piece);
-    Lines {
+    let got = input.read(piece)?;
+    Ok(Lines {
         at: 0,
         end: got,
         size: lines.size,
         count: lines.count,
         more: got > 0,
-    }
+    })
 }
 
 // One byte of the line more.
@@ -89,23 +90,28 @@ fn last(lines: Lines) -> Lines {
 }
 
 // The next line, if there is one.
-pub fn next(before: Lines, piece: &mut [u8], line: &mut [u8]) -> Lines {
+pub fn next(
+    before: Lines,
+    input: &mut impl Read,
+    piece: &mut [u8],
+    line: &mut [u8],
+) -> io::Result<Lines> {
     let mut lines = empty(before);
     let mut turns = u64::MAX;
     while turns > 0 {
-        lines = filled(lines, piece);
+        lines = filled(lines, input, piece)?;
         if !lines.more {
-            return last(lines);
+            return Ok(last(lines));
         }
         let c = byte(piece, lines.at);
         if c == b'\n' {
-            return whole(lines);
+            return Ok(whole(lines));
         }
         put(line, lines.size, c);
         lines = longer(lines);
         turns -= 1;
     }
-    lines
+    Ok(lines)
 }
 
 // The smaller of two numbers.
@@ -114,11 +120,11 @@ fn least(a: usize, b: usize) -> usize {
 }
 
 // The row of so many bytes at the front of a buffer, its name printed; empty where the buffer does not hold it.
-pub fn begin(buffer: &[u8], size: usize) -> &[u8] {
+pub fn begin<'a>(out: &mut impl Write, buffer: &'a [u8], size: usize) -> io::Result<&'a [u8]> {
     let held = least(size, buffer.len());
-    print::text(part(front(buffer, held), b';', 0));
-    print::text(b": ");
-    front(buffer, size)
+    print::text(out, part(front(buffer, held), b';', 0))?;
+    print::text(out, b": ")?;
+    Ok(front(buffer, size))
 }
 
 // Has the row its five parts?
@@ -127,8 +133,8 @@ pub fn is_row(row: &[u8]) -> bool {
 }
 
 // The last line: how many rows there were.
-pub fn end(lines: Lines) {
-    print::text(b"rows");
-    print::number(lines.count);
-    print::text(b"\n");
+pub fn end(out: &mut impl Write, lines: Lines) -> io::Result<()> {
+    print::text(out, b"rows")?;
+    print::number(out, lines.count)?;
+    print::text(out, b"\n")
 }
