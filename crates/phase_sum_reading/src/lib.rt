@@ -73,7 +73,7 @@ pub fn odd_both_in(mask: Set, sets: &[u64], coeffs: &[u8], count: usize, i: u32,
 }
 
 // The C and L of a variable y: document 01, "Reducing it".
-#[derive(Drop)]
+#[derive(Clone, Copy)]
 pub struct Halves {
     pub c: u8,
     pub l: Set,
