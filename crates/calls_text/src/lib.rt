@@ -164,7 +164,7 @@ pub fn are_below(text: &[u8], from: usize, to: usize, limit: usize) -> bool {
 }
 
 // Bytes that were read into a buffer: how many, or that the text is not of bytes.
-#[derive(Drop)]
+#[derive(Clone, Copy)]
 pub enum Bytes {
     Count(usize),
     Bad,

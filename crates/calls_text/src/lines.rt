@@ -7,9 +7,12 @@ use std::num::wrapping_add_usize;
 // The bytes that a row has at most.
 pub const MOST: usize = 8192;
 
+// The bytes of a piece.
+pub const PIECE: usize = 65536;
+
 // Where the input stands: the next byte of the present piece, and the piece's end; the bytes of the present line, which may be more than its
 // buffer holds; how many lines there were; whether the last search for one found it.
-#[derive(Drop)]
+#[derive(Clone, Copy)]
 pub struct Lines {
     pub at: usize,
     pub end: usize,

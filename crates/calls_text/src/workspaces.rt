@@ -44,7 +44,7 @@ pub fn fill_bytes(bytes: &mut [u8], seed: u64) {
 }
 
 // How many of the places that a comparison uses are 0, and how many of all hold what they held before.
-#[derive(Drop)]
+#[derive(Clone, Copy)]
 pub struct Seen {
     pub zero: usize,
     pub kept: usize,
