@@ -2,4 +2,4 @@
 use Rattle.record_calls.proofs.main.Given as goal
 
 abbrev pub decreases-loop-turns : goal.decreases-loop-turns
-decreases-loop-turns g l = l.turns
+decreases-loop-turns l = l.turns
