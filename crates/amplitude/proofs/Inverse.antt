@@ -32,13 +32,20 @@ ruleset turns = (+ω_idl, +ω_idr, ω^_zero, ← ω^-add, ω^_eight)
 pub kind_undo : (u : OneQubit) (q : ℕ) (b : Bool) (x y : Zω) →
     row (matrix (inverse_kind u)) b (row (matrix u) false x y) (row (matrix u) true x y) ≡ √2^ (is_h (one u q) + is_h (one u q)) (cond b y x)
 unfolding matrix entry times inverse_kind one_qubit_kind √2^
-kind_undo X q b x y = elim b [ false ↦ simp turns | true ↦ simp turns ]
-kind_undo Y q b x y = elim b [ false ↦ simp turns | true ↦ simp turns ]
-kind_undo Z q b x y = elim b [ false ↦ simp turns | true ↦ simp turns ]
-kind_undo S q b x y = elim b [ false ↦ simp turns | true ↦ simp turns ]
-kind_undo S† q b x y = elim b [ false ↦ simp turns | true ↦ simp turns ]
-kind_undo T q b x y = elim b [ false ↦ simp turns | true ↦ simp turns ]
-kind_undo T† q b x y = elim b [ false ↦ simp turns | true ↦ simp turns ]
+kind_undo X q false x y = simp turns
+kind_undo X q true x y = simp turns
+kind_undo Y q false x y = simp turns
+kind_undo Y q true x y = simp turns
+kind_undo Z q false x y = simp turns
+kind_undo Z q true x y = simp turns
+kind_undo S q false x y = simp turns
+kind_undo S q true x y = simp turns
+kind_undo S† q false x y = simp turns
+kind_undo S† q true x y = simp turns
+kind_undo T q false x y = simp turns
+kind_undo T q true x y = simp turns
+kind_undo T† q false x y = simp turns
+kind_undo T† q true x y = simp turns
 kind_undo H q false x y = simp (ω^_zero, ω^_four, mul√2_twice) (+ω_swap x y x (neg y) ∙ simp (+ω_invr, +ω_idr))
 kind_undo H q true x y = simp (ω^_zero, ω^_four, neg-+ω, neg-neg, mul√2_twice) (+ω_swap x y (neg x) y ∙ simp (+ω_invr, +ω_idl))
 

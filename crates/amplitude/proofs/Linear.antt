@@ -177,9 +177,17 @@ tally_shift f k same (g ∷ gs) = rw (tally_shift f k same gs, same g)
 -- a gate is an H or a T gate whatever its qubits
 gate_shift : (k : ℕ) (g : Gate) → (is_h (shift_gate k g) ≡ is_h g) × (is_t (shift_gate k g) ≡ is_t g)
 unfolding shift_gate
-gate_shift k (one u a) =
-    elim u [ X ↦ (refl, refl) | Y ↦ (refl, refl) | Z ↦ (refl, refl) | S ↦ (refl, refl) | S† ↦ (refl, refl) | T ↦ (refl, refl) | T† ↦ (refl, refl) | H ↦ (refl, refl) ]
-gate_shift k (two v a b) = (refl, refl)
+gate_shift k (one X a) = (refl, refl)
+gate_shift k (one Y a) = (refl, refl)
+gate_shift k (one Z a) = (refl, refl)
+gate_shift k (one S a) = (refl, refl)
+gate_shift k (one S† a) = (refl, refl)
+gate_shift k (one T a) = (refl, refl)
+gate_shift k (one T† a) = (refl, refl)
+gate_shift k (one H a) = (refl, refl)
+gate_shift k (two CX a b) = (refl, refl)
+gate_shift k (two CZ a b) = (refl, refl)
+gate_shift k (two SWAP a b) = (refl, refl)
 
 -- qubits further on leave the H gates of a list
 pub h_gates_shift : (k : ℕ) (gs : List Gate) → h_gates (shift_list k gs) ≡ h_gates gs

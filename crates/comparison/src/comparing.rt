@@ -2,7 +2,7 @@
 ghost use Rattle.std.specs.Prelude.{◌≡◌, length, replicate};
 ghost use Rattle.record_format.specs.Reading.{gates_in};
 ghost use Rattle.phase_sum_meaning.specs.Room.{places, set_words};
-ghost use Rattle.phase_sum_types.specs.Workspace.{sets_at, Level, Levelled, lent, before, after, Sized};
+ghost use Rattle.phase_sum_types.specs.Workspace.{sets_at, Level, Levelled, lent, Sized};
 ghost use Rattle.phase_sum_types.specs.Unmerged.{Buildable};
 ghost use Rattle.comparison_meaning.specs.Verdict.{compare};
 ghost use Rattle.comparison_types.specs.Call.{result_of, said_of, comparison, left_by};
@@ -27,8 +27,8 @@ fn reduce_end(
     sets: &mut [u64],
     coeffs: &mut [u8],
 ) -> End
-    requires { CountedTo 0 pinned.counts × Sized pinned.sum (lent ws fs sets coeffs) × Levelled ws fs sets coeffs }
-    ensures { ReducesEnd pinned result (before ws fs sets coeffs) (after ws fs sets coeffs) }
+    requires { CountedTo 0 pinned.counts × Sized pinned.sum (lent ws.old fs.old sets.old coeffs.old) × Levelled ws.old fs.old sets.old coeffs.old }
+    ensures { ReducesEnd pinned result (lent ws.old fs.old sets.old coeffs.old) (lent ws.new fs.new sets.new coeffs.new) }
 {
     if pinned.blocked {
         return pinned;
@@ -47,7 +47,7 @@ fn decide_in(
     sets: &mut [u64],
     coeffs: &mut [u8],
 ) -> Outcome
-    requires { Buildable (length fs.old) first.now second.now (sets_at sets) coeffs.old × Levelled ws fs sets coeffs }
+    requires { Buildable (length fs.old) first.now second.now (sets_at sets.old) coeffs.old × Levelled ws.old fs.old sets.old coeffs.old }
     ensures { result_of result ≡ compare 0 (length fs.old) (gates_in first.now) (gates_in second.now) }
 {
     let n = fs.len();
@@ -59,7 +59,7 @@ fn decide_in(
 
 // The comparison of two lists of gates on n qubits, by their bytes, in the places that are lent. All of them are zero afterwards.
 fn decide(n: usize, first: &[u8], second: &[u8], sets: &mut [u64], coeffs: &mut [u8]) -> Outcome
-    requires { Buildable n first.now second.now (sets_at sets) coeffs.old × Level sets.old coeffs.old }
+    requires { Buildable n first.now second.now (sets_at sets.old) coeffs.old × Level sets.old coeffs.old }
     ensures steps { result_of result ≡ compare 0 n (gates_in first.now) (gates_in second.now) }
     ensures zero { (sets.new ≡ replicate (length sets.old) 0) × (coeffs.new ≡ replicate (length coeffs.old) 0) }
 {

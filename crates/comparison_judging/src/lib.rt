@@ -46,7 +46,7 @@ fn outcome(sum: Sum, counts: Counts, verdict: Verdict, first: u16, second: u16) 
 // power of ω that carries the first list to the second.
 fn searched(sum: Sum, counts: Counts, n: usize, sets: &[u64], coeffs: &[u8]) -> Outcome
     requires { (n ≤ 16) × (sum.phase.count ≤ places_in sets.now) × (sum.phase.count ≤ length coeffs.now) }
-    ensures* { λ r. ⌜ ((ws : List ℕ) (fs : List Bool) (by : Parity) → result_of r ≡ searched 0 n (end_of (unblocked by sum counts) (slices ws fs (sets_at sets.entry) coeffs.now))) ⌝ }
+    ensures* { λ r. ⌜ ((ws : List ℕ) (fs : List Bool) (by : Parity) → result_of r ≡ searched 0 n (end_of (unblocked by sum counts) (slices ws fs (sets_at sets.now) coeffs.now))) ⌝ }
 {
     let phase = sum.phase;
     if counts.pins != counts.sums {
@@ -64,7 +64,7 @@ fn searched(sum: Sum, counts: Counts, n: usize, sets: &[u64], coeffs: &[u8]) -> 
 // The verdict on n qubits.
 pub fn judge(end: End, n: usize, sets: &[u64], coeffs: &[u8]) -> Outcome
     requires { (n ≤ 16) × (end.sum.phase.count ≤ places_in sets.now) × (end.sum.phase.count ≤ length coeffs.now) }
-    ensures* { λ r. ⌜ ((ws : List ℕ) (fs : List Bool) → result_of r ≡ judge 0 n (end_of end (slices ws fs (sets_at sets.entry) coeffs.now))) ⌝ }
+    ensures* { λ r. ⌜ ((ws : List ℕ) (fs : List Bool) → result_of r ≡ judge 0 n (end_of end (slices ws fs (sets_at sets.now) coeffs.now))) ⌝ }
 {
     let sum = end.sum;
     let counts = end.counts;

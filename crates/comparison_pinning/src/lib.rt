@@ -4,7 +4,7 @@ ghost use Rattle.std.specs.Prelude.{◌≡◌, ◌+◌, ◌<◌, ◌≤◌, leng
 ghost use Rattle.phase_sum_meaning.specs.Parity.{of, ◌⊕◌, rest};
 ghost use Rattle.phase_sum_meaning.specs.Building.{input};
 ghost use Rattle.phase_sum_meaning.specs.Room.{most_variables};
-ghost use Rattle.phase_sum_types.specs.Workspace.{sets_at, places_in, Levelled, parity_of, zip_wires, lent, before, after, Sized};
+ghost use Rattle.phase_sum_types.specs.Workspace.{sets_at, places_in, Levelled, parity_of, zip_wires, lent, Sized};
 ghost use Rattle.comparison_meaning.specs.Reduction.{is_zero};
 ghost use Rattle.comparison_types.specs.Inner.{PinnedQubit, PinnedAll};
 
@@ -17,7 +17,7 @@ use phase_sum_types::{Found, Parity, Sum};
 // The parity of output wire q and input q together.
 fn mismatch(ws: &[u64], fs: &[bool], q: usize) -> Parity
     requires { (q < most_variables) × (q < places_in ws.now) × (q < length fs.now) }
-    ensures { parity_of result ≡ get_or (zip_wires (sets_at ws.entry) fs.now) q (of 0) ⊕ input 0 q }
+    ensures { parity_of result ≡ get_or (zip_wires (sets_at ws.now) fs.now) q (of 0) ⊕ input 0 q }
 {
     let w = wire(ws, fs, q);
     Parity {
@@ -70,8 +70,8 @@ fn pin_qubit(
     sets: &mut [u64],
     coeffs: &mut [u8],
 ) -> End
-    requires { (q < length fs.old) × (counts.pins ≤ q) × Sized sum (lent ws fs sets coeffs) × Levelled ws fs sets coeffs }
-    ensures { PinnedQubit q sum counts result (before ws fs sets coeffs) (after ws fs sets coeffs) }
+    requires { (q < length fs.old) × (counts.pins ≤ q) × Sized sum (lent ws.old fs.old sets.old coeffs.old) × Levelled ws.old fs.old sets.old coeffs.old }
+    ensures { PinnedQubit q sum counts result (lent ws.old fs.old sets.old coeffs.old) (lent ws.new fs.new sets.new coeffs.new) }
 {
     let by = mismatch(ws, fs, q);
     match lowest_in(sum.live, by.set) {
@@ -92,8 +92,8 @@ fn pin_qubit(
 
 // Every qubit pinned, up to the first that is blocked.
 pub fn pin(sum: Sum, ws: &mut [u64], fs: &mut [bool], sets: &mut [u64], coeffs: &mut [u8]) -> End
-    requires { Sized sum (lent ws fs sets coeffs) × Levelled ws fs sets coeffs }
-    ensures { PinnedAll sum result (before ws fs sets coeffs) (after ws fs sets coeffs) }
+    requires { Sized sum (lent ws.old fs.old sets.old coeffs.old) × Levelled ws.old fs.old sets.old coeffs.old }
+    ensures { PinnedAll sum result (lent ws.old fs.old sets.old coeffs.old) (lent ws.new fs.new sets.new coeffs.new) }
 {
     let mut end = End {
         blocked: false,

@@ -4,7 +4,7 @@ ghost use Rattle.std.specs.Prelude.{◌≡◌, ◌<◌, ◌≤◌, true, false, 
 ghost use Rattle.amplitude.specs.Bits.{bit};
 ghost use Rattle.phase_sum_meaning.specs.Stepping.{kind_of, constraint, constrained, first_ready};
 ghost use Rattle.phase_sum_meaning.specs.Room.{most_variables};
-ghost use Rattle.phase_sum_types.specs.Workspace.{set_of, sets_at, places_in, Levelled, held, parity_of, members, found_of, lent, before, after, Sized};
+ghost use Rattle.phase_sum_types.specs.Workspace.{set_of, sets_at, places_in, Levelled, held, parity_of, members, found_of, lent, Sized};
 ghost use Rattle.comparison_meaning.specs.Reduction.{add_sum, add_turn, add_join};
 ghost use Rattle.comparison_types.specs.Inner.{counts_of, CountedTo, Goes, StepsTo, StepsAt, ReducedTo};
 
@@ -106,8 +106,8 @@ pub fn step_at(
     sets: &mut [u64],
     coeffs: &mut [u8],
 ) -> End
-    requires { (bit y (set_of sum.live) ≡ true) × (y < most_variables) × (z < most_variables) × CountedTo most_variables counts × Sized sum (lent ws fs sets coeffs) × Levelled ws fs sets coeffs }
-    ensures { StepsTo y z c (set_of l) sum counts result (before ws fs sets coeffs) (after ws fs sets coeffs) }
+    requires { (bit y (set_of sum.live) ≡ true) × (y < most_variables) × (z < most_variables) × CountedTo most_variables counts × Sized sum (lent ws.old fs.old sets.old coeffs.old) × Levelled ws.old fs.old sets.old coeffs.old }
+    ensures { StepsTo y z c (set_of l) sum counts result (lent ws.old fs.old sets.old coeffs.old) (lent ws.new fs.new sets.new coeffs.new) }
 {
     if c % 2 == 1 {
         return goes(turn_out(sum, y, c, l, sets, coeffs), add_turn(counts));
@@ -132,8 +132,8 @@ fn step(
     sets: &mut [u64],
     coeffs: &mut [u8],
 ) -> End
-    requires { (bit y (set_of sum.live) ≡ true) × (y < most_variables) × CountedTo most_variables counts × Sized sum (lent ws fs sets coeffs) × Levelled ws fs sets coeffs }
-    ensures { StepsAt y sum counts result (before ws fs sets coeffs) (after ws fs sets coeffs) }
+    requires { (bit y (set_of sum.live) ≡ true) × (y < most_variables) × CountedTo most_variables counts × Sized sum (lent ws.old fs.old sets.old coeffs.old) × Levelled ws.old fs.old sets.old coeffs.old }
+    ensures { StepsAt y sum counts result (lent ws.old fs.old sets.old coeffs.old) (lent ws.new fs.new sets.new coeffs.new) }
 {
     let phase = sum.phase;
     let halves = halves_of(sets, coeffs, phase.count, y);
@@ -158,7 +158,7 @@ fn step(
 // The lowest ready variable: left, and in no term of odd coefficient.
 fn ready(sum: Sum, sets: &[u64], coeffs: &[u8]) -> Found
     requires { (sum.phase.count ≤ places_in sets.now) × (sum.phase.count ≤ length coeffs.now) }
-    ensures { found_of result ≡ first_ready (members (set_of sum.live)) (held sum.phase.count (sets_at sets.entry) coeffs.now) }
+    ensures { found_of result ≡ first_ready (members (set_of sum.live)) (held sum.phase.count (sets_at sets.now) coeffs.now) }
 {
     let phase = sum.phase;
     lowest_out(sum.live, odd_mask(sets, coeffs, phase.count))
@@ -173,8 +173,8 @@ pub fn reduce(
     sets: &mut [u64],
     coeffs: &mut [u8],
 ) -> End
-    requires { CountedTo 0 counts × Sized sum (lent ws fs sets coeffs) × Levelled ws fs sets coeffs }
-    ensures { ReducedTo sum counts result (before ws fs sets coeffs) (after ws fs sets coeffs) }
+    requires { CountedTo 0 counts × Sized sum (lent ws.old fs.old sets.old coeffs.old) × Levelled ws.old fs.old sets.old coeffs.old }
+    ensures { ReducedTo sum counts result (lent ws.old fs.old sets.old coeffs.old) (lent ws.new fs.new sets.new coeffs.new) }
 {
     let mut end = goes(sum, counts);
     let mut left = count(sum.live);

@@ -25,7 +25,7 @@ fn only(q: u32) -> u64
 // Does the phase at an input differ from that at input 0?
 fn differs(sets: &[u64], coeffs: &[u8], phase: Phase, input: u64) -> bool
     requires { (phase.count ≤ places_in sets.now) × (phase.count ≤ length coeffs.now) }
-    ensures { result ≡ not (eqb (phase_at (phase_of phase (sets_at sets.entry) coeffs.now) input % 8) (phase_at (phase_of phase (sets_at sets.entry) coeffs.now) 0 % 8)) }
+    ensures { result ≡ not (eqb (phase_at (phase_of phase (sets_at sets.now) coeffs.now) input % 8) (phase_at (phase_of phase (sets_at sets.now) coeffs.now) 0 % 8)) }
 {
     phase_at(sets, coeffs, phase, input) != phase.constant % 8
 }
@@ -33,7 +33,7 @@ fn differs(sets: &[u64], coeffs: &[u8], phase: Phase, input: u64) -> bool
 // The inputs of weight 1.
 fn weight_one(sets: &[u64], coeffs: &[u8], phase: Phase, n: u32) -> u64
     requires { (n ≤ 16) × (phase.count ≤ places_in sets.now) × (phase.count ≤ length coeffs.now) }
-    ensures { input_of result ≡ first_differing (phase_of phase (sets_at sets.entry) coeffs.now) (weight 0 1 n) }
+    ensures { input_of result ≡ first_differing (phase_of phase (sets_at sets.now) coeffs.now) (weight 0 1 n) }
 {
     let mut i = 0u32;
     while i < n {
@@ -49,7 +49,7 @@ fn weight_one(sets: &[u64], coeffs: &[u8], phase: Phase, n: u32) -> u64
 // The inputs of weight 2, the higher qubit outside.
 fn weight_two(sets: &[u64], coeffs: &[u8], phase: Phase, n: u32) -> u64
     requires { (n ≤ 16) × (phase.count ≤ places_in sets.now) × (phase.count ≤ length coeffs.now) }
-    ensures { input_of result ≡ first_differing (phase_of phase (sets_at sets.entry) coeffs.now) (weight 0 2 n) }
+    ensures { input_of result ≡ first_differing (phase_of phase (sets_at sets.now) coeffs.now) (weight 0 2 n) }
 {
     let mut i = 0u32;
     while i < n {
@@ -71,8 +71,8 @@ fn weight_two(sets: &[u64], coeffs: &[u8], phase: Phase, n: u32) -> u64
 // qubits i, j and k an input differs exactly if an odd number of terms of odd coefficient hold all three: one pass over the terms for
 // each i and j shows it for every k. The mask has the variables that are in such terms.
 fn weight_three(sets: &[u64], coeffs: &[u8], phase: Phase, mask: Set, n: u32) -> u64
-    requires { (n ≤ 16) × (phase.count ≤ places_in sets.now) × (phase.count ≤ length coeffs.now) × AgreesToTwo (phase_of phase (sets_at sets) coeffs.now) n × OddMask (set_of mask) (held phase.count (sets_at sets) coeffs.now) }
-    ensures { input_of result ≡ first_differing (phase_of phase (sets_at sets.entry) coeffs.now) (weight 0 3 n) }
+    requires { (n ≤ 16) × (phase.count ≤ places_in sets.now) × (phase.count ≤ length coeffs.now) × AgreesToTwo (phase_of phase (sets_at sets.now) coeffs.now) n × OddMask (set_of mask) (held phase.count (sets_at sets.now) coeffs.now) }
+    ensures { input_of result ≡ first_differing (phase_of phase (sets_at sets.now) coeffs.now) (weight 0 3 n) }
 {
     let mut found = 0u64;
     let mut i = 0u32;
@@ -100,7 +100,7 @@ fn weight_three(sets: &[u64], coeffs: &[u8], phase: Phase, mask: Set, n: u32) ->
 // The first input that differs: weight 1, then 2, then 3. Where no coefficient is odd, weight 2 is enough.
 pub fn search(sets: &[u64], coeffs: &[u8], phase: Phase, n: u32) -> u64
     requires { (n ≤ 16) × (phase.count ≤ places_in sets.now) × (phase.count ≤ length coeffs.now) }
-    ensures { input_of result ≡ first_differing (phase_of phase (sets_at sets.entry) coeffs.now) (candidates 0 n) }
+    ensures { input_of result ≡ first_differing (phase_of phase (sets_at sets.now) coeffs.now) (candidates 0 n) }
 {
     let one = weight_one(sets, coeffs, phase, n);
     if one != 0 {

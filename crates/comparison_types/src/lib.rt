@@ -11,7 +11,7 @@ use phase_sum_types::{Parity, Sum};
 use record_format::Report;
 
 // The four verdicts.
-#[derive(Drop)]
+#[derive(Clone, Copy)]
 pub enum Verdict {
     // all amplitudes agree exactly
     Equal,
@@ -25,7 +25,7 @@ pub enum Verdict {
 
 // What the comparison found: the verdict, two inputs and document 01's five counts. The inputs are those that a difference shows; of turned
 // the first is the power of ω, 1 to 7; else they are 0.
-#[derive(Drop)]
+#[derive(Clone, Copy)]
 pub struct Outcome {
     pub verdict: Verdict,
     pub first: u16,
@@ -38,7 +38,7 @@ pub struct Outcome {
 }
 
 // Why a pair is refused. specs/Call.antt gives each case the table's number and, for a list, the index of its gate.
-#[derive(Drop)]
+#[derive(Clone, Copy)]
 pub enum Refusal {
     // 1 to 7 and 13: the first list
     First(record_format::Refusal),
@@ -55,7 +55,7 @@ pub enum Refusal {
 }
 
 // What the comparison answers.
-#[derive(Drop)]
+#[derive(Clone, Copy)]
 pub enum Answer {
     Compared(Outcome),
     Refused(Refusal),
@@ -116,7 +116,7 @@ pub fn report_of(o: Outcome) -> Report
 }
 
 // How often each step was taken so far.
-#[derive(Drop)]
+#[derive(Clone, Copy)]
 pub struct Counts {
     pub pins: u8,
     pub sums: u8,
@@ -125,7 +125,7 @@ pub struct Counts {
 }
 
 // Where pinning or reducing stands: blocked by a parity, or not.
-#[derive(Drop)]
+#[derive(Clone, Copy)]
 pub struct End {
     pub blocked: bool,
     pub by: Parity,
@@ -134,14 +134,14 @@ pub struct End {
 }
 
 // What the checks on a pair find: the qubits of both lists, the gates of the first and those of the second; or why it is refused.
-#[derive(Drop)]
+#[derive(Clone, Copy)]
 pub enum PairCheck {
     Good { n: usize, g: usize, h: usize },
     Refused(Refusal),
 }
 
 // What comparing a pair gives: the outcome, the gates of the first list and those of the second; or why it is refused.
-#[derive(Drop)]
+#[derive(Clone, Copy)]
 pub enum Comparison {
     Done {
         outcome: Outcome,

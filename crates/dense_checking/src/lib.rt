@@ -24,7 +24,7 @@ pub const BUFFER_SIZE: usize = 512;
 
 // What the checks on a call find: the qubits of both lists, the gates of the first and of the second, and the H gates of each; or why it is
 // refused.
-#[derive(Drop)]
+#[derive(Clone, Copy)]
 pub enum BlockCheck {
     Good {
         n: usize,

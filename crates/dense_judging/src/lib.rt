@@ -24,7 +24,7 @@ pub const BUFFER_SIZE: usize = 512;
 const POWERS: u8 = 8;
 
 // What comparing all columns finds: the power of ω that carries them all, or the first input at which none is left.
-#[derive(Drop)]
+#[derive(Clone, Copy)]
 pub enum Judged {
     Carried(u8),
     Different(u16),

@@ -7,7 +7,7 @@ ghost use Rattle.amplitude.specs.Testing.{eqω};
 ghost use Rattle.dense_numbers.specs.Numbers.{number, Sized, most_doublings};
 
 // An amplitude: a + bω + cω² + dω³.
-#[derive(Drop)]
+#[derive(Clone, Copy)]
 pub struct Amplitude {
     pub a: i64,
     pub b: i64,

@@ -4,7 +4,7 @@ use comparison_types::{Refusal, Verdict};
 
 // What the dense comparison found: the verdict, never undecided, and two inputs. They are those that a difference shows; of turned the first is
 // the power of ω, 1 to 7; else they are 0.
-#[derive(Drop)]
+#[derive(Clone, Copy)]
 pub struct Outcome {
     pub verdict: Verdict,
     pub first: u16,
@@ -12,7 +12,7 @@ pub struct Outcome {
 }
 
 // What the dense comparison answers.
-#[derive(Drop)]
+#[derive(Clone, Copy)]
 pub enum Answer {
     Compared(Outcome),
     Refused(Refusal),

@@ -9,7 +9,7 @@ ghost use Rattle.gate_counting.specs.Inner.{weight_of};
 use record_format::gate;
 
 // What a tally counts: H gates, or T gates and their inverses.
-#[derive(Drop)]
+#[derive(Clone, Copy)]
 enum Weight {
     H,
     T,

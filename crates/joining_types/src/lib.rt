@@ -4,7 +4,7 @@ ghost use Rattle.std.specs.Prelude.{◌≡◌};
 ghost use Rattle.joining_types.specs.Call.{number_of};
 
 // Why a join is refused. specs/Call.antt gives each case the table's number and, for a list, the index of its gate.
-#[derive(Drop)]
+#[derive(Clone, Copy)]
 pub enum Refusal {
     // 1 to 7 and 13: the first list
     First(record_format::Refusal),
@@ -21,14 +21,14 @@ pub enum Refusal {
 }
 
 // What a join answers: the length of the record that it wrote, or why it wrote nothing.
-#[derive(Drop)]
+#[derive(Clone, Copy)]
 pub enum Joined {
     Length(usize),
     Refused(Refusal),
 }
 
 // What reading two records finds: the qubits and gates of the first, those of the second; or why the call is refused.
-#[derive(Drop)]
+#[derive(Clone, Copy)]
 pub enum Both {
     Read {
         n: usize,

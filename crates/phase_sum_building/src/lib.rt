@@ -7,7 +7,7 @@ ghost use Rattle.record_format.specs.Reading.{gates_in};
 ghost use Rattle.phase_sum_meaning.specs.Sets.{from};
 ghost use Rattle.phase_sum_meaning.specs.Building.{initial};
 ghost use Rattle.phase_sum_meaning.specs.Room.{most_variables};
-ghost use Rattle.phase_sum_types.specs.Workspace.{set_of, sets_at, Level, Levelled, slices, lent, before, after, members};
+ghost use Rattle.phase_sum_types.specs.Workspace.{set_of, sets_at, Level, Levelled, slices, lent, members};
 ghost use Rattle.phase_sum_types.specs.Unmerged.{miter_in, Runnable, Leaves, RunsAll, Builds, Buildable};
 
 use phase_sum_gates::run_gate;
@@ -26,8 +26,8 @@ pub fn forwards(
     sets: &mut [u64],
     coeffs: &mut [u8],
 ) -> Run
-    requires { (length gates.now % 3 ≡ 0) × Runnable run (gates_in gates.now) (lent ws fs sets coeffs) × Levelled ws fs sets coeffs }
-    ensures { RunsAll (gates_in gates.now) run result (before ws fs sets coeffs) (after ws fs sets coeffs) }
+    requires { (length gates.now % 3 ≡ 0) × Runnable run (gates_in gates.now) (lent ws.old fs.old sets.old coeffs.old) × Levelled ws.old fs.old sets.old coeffs.old }
+    ensures { RunsAll (gates_in gates.now) run result (lent ws.old fs.old sets.old coeffs.old) (lent ws.new fs.new sets.new coeffs.new) }
 {
     let mut now = run;
     let mut i = 0;
@@ -54,8 +54,8 @@ pub fn backwards(
     sets: &mut [u64],
     coeffs: &mut [u8],
 ) -> Run
-    requires { (length gates.now % 3 ≡ 0) × Runnable run (inverse_list (gates_in gates.now)) (lent ws fs sets coeffs) × Levelled ws fs sets coeffs }
-    ensures { RunsAll (inverse_list (gates_in gates.now)) run result (before ws fs sets coeffs) (after ws fs sets coeffs) }
+    requires { (length gates.now % 3 ≡ 0) × Runnable run (inverse_list (gates_in gates.now)) (lent ws.old fs.old sets.old coeffs.old) × Levelled ws.old fs.old sets.old coeffs.old }
+    ensures { RunsAll (inverse_list (gates_in gates.now)) run result (lent ws.old fs.old sets.old coeffs.old) (lent ws.new fs.new sets.new coeffs.new) }
 {
     let mut now = run;
     let mut i = gates.len();
@@ -76,7 +76,7 @@ pub fn backwards(
 // The sum of no gates, on as many qubits as there are wires: no phase yet, and each wire its own input.
 fn start(ws: &mut [u64], fs: &mut [bool]) -> Run
     requires { (length fs.old ≤ 16) × Level ws.old fs.old }
-    ensures { (ss cs : List ℕ) → Leaves (initial 0 (length fs.old)) 0 result (slices (sets_at ws.entry) fs.old ss cs) (slices (sets_at ws.exit) fs.new ss cs) }
+    ensures { (ss cs : List ℕ) → Leaves (initial 0 (length fs.old)) 0 result (slices (sets_at ws.old) fs.old ss cs) (slices (sets_at ws.new) fs.new ss cs) }
 {
     let n = fs.len();
     let mut q = 0;
@@ -117,8 +117,8 @@ pub fn build(
     sets: &mut [u64],
     coeffs: &mut [u8],
 ) -> Sum
-    requires { Buildable (length fs.old) first.now second.now (sets_at sets) coeffs.old × Levelled ws fs sets coeffs }
-    ensures { Builds (miter_in first.now second.now) result (before ws fs sets coeffs) (after ws fs sets coeffs) }
+    requires { Buildable (length fs.old) first.now second.now (sets_at sets.old) coeffs.old × Levelled ws.old fs.old sets.old coeffs.old }
+    ensures { Builds (miter_in first.now second.now) result (lent ws.old fs.old sets.old coeffs.old) (lent ws.new fs.new sets.new coeffs.new) }
 {
     let n = fs.len();
     let begun = start(ws, fs);

@@ -4,7 +4,7 @@
 ghost use Rattle.std.specs.Prelude.{◌≡◌, ℕ, ◌+◌, ◌<◌, ◌≤◌, false, [], ◌∷◌, length};
 ghost use Rattle.record_format.specs.Gate.{gate_of, raw, one, two, Y, CZ};
 ghost use Rattle.phase_sum_meaning.specs.Building.{PathSum, product_by};
-ghost use Rattle.phase_sum_types.specs.Workspace.{sets_at, Level, Levelled, phase_of, Phased, alone, parity_of, lent, before, after};
+ghost use Rattle.phase_sum_types.specs.Workspace.{sets_at, Level, Levelled, phase_of, Phased, alone, parity_of, lent};
 ghost use Rattle.phase_sum_types.specs.Unmerged.{put_behind, append_gate, sum_in, Runnable, Leaves, Runs, moves_only};
 ghost use Rattle.phase_sum_types.specs.Inner.{on_h, append_phase};
 
@@ -18,7 +18,7 @@ use record_format::gate;
 // A phase c on a wire, as one term more: on a complemented parity, c to the constant and the term −c.
 pub fn put_phase(phase: Phase, c: u8, w: Parity, sets: &mut [u64], coeffs: &mut [u8]) -> Phase
     requires { Level sets.old coeffs.old × (phase.count < length coeffs.old) }
-    ensures { Phased (put_behind c (parity_of w) (phase_of phase (sets_at sets.entry) coeffs.old)) phase.count result (sets_at sets.entry) coeffs.old (sets_at sets.exit) coeffs.new }
+    ensures { Phased (put_behind c (parity_of w) (phase_of phase (sets_at sets.old) coeffs.old)) phase.count result (sets_at sets.old) coeffs.old (sets_at sets.new) coeffs.new }
 {
     let count = phase.count;
     if w.flipped {
@@ -36,7 +36,7 @@ pub fn put_phase(phase: Phase, c: u8, w: Parity, sets: &mut [u64], coeffs: &mut 
 // 4 on the product of two wires, by 4uv = 2u + 2v − 2(u ⊕ v).
 pub fn put_product(phase: Phase, u: Parity, v: Parity, sets: &mut [u64], coeffs: &mut [u8]) -> Phase
     requires { Level sets.old coeffs.old × (phase.count + 3 ≤ length coeffs.old) }
-    ensures { Phased (product_by put_behind (parity_of u) (parity_of v) (alone (phase_of phase (sets_at sets.entry) coeffs.old))).phase phase.count result (sets_at sets.entry) coeffs.old (sets_at sets.exit) coeffs.new }
+    ensures { Phased (product_by put_behind (parity_of u) (parity_of v) (alone (phase_of phase (sets_at sets.old) coeffs.old))).phase phase.count result (sets_at sets.old) coeffs.old (sets_at sets.new) coeffs.new }
 {
     let once = put_phase(phase, 2, u, sets, coeffs);
     let twice = put_phase(once, 2, v, sets, coeffs);
@@ -67,8 +67,8 @@ fn diagonal(
     sets: &mut [u64],
     coeffs: &mut [u8],
 ) -> Run
-    requires { (q < length fs.now) × (length fs.now ≤ run.next) × (run.phase.count < length coeffs.old) × Levelled ws fs sets coeffs }
-    ensures { Leaves (append_phase c q (sum_in run (before ws fs sets coeffs))) run.phase.count result (before ws fs sets coeffs) (after ws fs sets coeffs) }
+    requires { (q < length fs.now) × (length fs.now ≤ run.next) × (run.phase.count < length coeffs.old) × Levelled ws.now fs.now sets.old coeffs.old }
+    ensures { Leaves (append_phase c q (sum_in run (lent ws.now fs.now sets.old coeffs.old))) run.phase.count result (lent ws.now fs.now sets.old coeffs.old) (lent ws.now fs.now sets.new coeffs.new) }
 {
     let phase = run.phase;
     Run {
@@ -86,8 +86,8 @@ fn y_gate(
     sets: &mut [u64],
     coeffs: &mut [u8],
 ) -> Run
-    requires { Runnable run (one Y q ∷ []) (lent ws fs sets coeffs) × Levelled ws fs sets coeffs }
-    ensures { Runs (one Y q) run result (before ws fs sets coeffs) (after ws fs sets coeffs) }
+    requires { Runnable run (one Y q ∷ []) (lent ws.now fs.old sets.old coeffs.old) × Levelled ws.now fs.old sets.old coeffs.old }
+    ensures { Runs (one Y q) run result (lent ws.now fs.old sets.old coeffs.old) (lent ws.now fs.new sets.new coeffs.new) }
 {
     let old = run.phase;
     let phase = put_phase(old, 4, wire(ws, fs, q), sets, coeffs);
@@ -110,8 +110,8 @@ fn hadamard(
     sets: &mut [u64],
     coeffs: &mut [u8],
 ) -> Run
-    requires { Runnable run (on_h q ∷ []) (lent ws fs sets coeffs) × Levelled ws fs sets coeffs }
-    ensures { Runs (on_h q) run result (before ws fs sets coeffs) (after ws fs sets coeffs) }
+    requires { Runnable run (on_h q ∷ []) (lent ws.old fs.old sets.old coeffs.old) × Levelled ws.old fs.old sets.old coeffs.old }
+    ensures { Runs (on_h q) run result (lent ws.old fs.old sets.old coeffs.old) (lent ws.new fs.new sets.new coeffs.new) }
 {
     let old = run.phase;
     let next = run.next;
@@ -137,8 +137,8 @@ fn controlled_z(
     sets: &mut [u64],
     coeffs: &mut [u8],
 ) -> Run
-    requires { Runnable run (two CZ a b ∷ []) (lent ws fs sets coeffs) × Levelled ws fs sets coeffs }
-    ensures { Runs (two CZ a b) run result (before ws fs sets coeffs) (after ws fs sets coeffs) }
+    requires { Runnable run (two CZ a b ∷ []) (lent ws.now fs.now sets.old coeffs.old) × Levelled ws.now fs.now sets.old coeffs.old }
+    ensures { Runs (two CZ a b) run result (lent ws.now fs.now sets.old coeffs.old) (lent ws.now fs.now sets.new coeffs.new) }
 {
     let phase = run.phase;
     Run {
@@ -158,8 +158,8 @@ pub fn run_gate(
     sets: &mut [u64],
     coeffs: &mut [u8],
 ) -> Run
-    requires { (moves_only (gate_of (raw kind a b)) ≡ false) × Runnable run (gate_of (raw kind a b) ∷ []) (lent ws fs sets coeffs) × Levelled ws fs sets coeffs }
-    ensures { Runs (gate_of (raw kind a b)) run result (before ws fs sets coeffs) (after ws fs sets coeffs) }
+    requires { (moves_only (gate_of (raw kind a b)) ≡ false) × Runnable run (gate_of (raw kind a b) ∷ []) (lent ws.old fs.old sets.old coeffs.old) × Levelled ws.old fs.old sets.old coeffs.old }
+    ensures { Runs (gate_of (raw kind a b)) run result (lent ws.old fs.old sets.old coeffs.old) (lent ws.new fs.new sets.new coeffs.new) }
 {
     let p = a as usize;
     let q = b as usize;

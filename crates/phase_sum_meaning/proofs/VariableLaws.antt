@@ -38,6 +38,7 @@ first_such_some test (v ∷ vs) z e = go (test v) refl (first_such_some test vs 
 -- where none is found, none of the list passes
 pub first_such_none : (test : ℕ → Bool) (vs : List ℕ) → first_such test vs ≡ none → (v : ℕ) → Among v vs → test v ≡ false
 unfolding first_such
+first_such_none test [] e v a = elim a [ ]
 first_such_none test (u ∷ vs) e v a = go (test u) refl (first_such_none test vs)
   where
     go : (b : Bool) → test u ≡ b → (first_such test vs ≡ none → (v : ℕ) → Among v vs → test v ≡ false) → test v ≡ false
@@ -67,6 +68,7 @@ first_such_lowest test (u ∷ vs) z r e v a h = go (test u) refl (first_such_low
 -- what is in a list without v is in the list, and is not v
 pub without-among : (v : ℕ) (us : List ℕ) {u : ℕ} → Among u (without v us) → Among u us × (u ≡ v → ⊥)
 unfolding without
+without-among v [] a = elim a [ ]
 without-among v (w ∷ us) {u} a = go (eqb w v) refl (without-among v us)
   where
     go : (b : Bool) → eqb w v ≡ b → (Among u (without v us) → Among u us × (u ≡ v → ⊥)) → Among u (w ∷ us) × (u ≡ v → ⊥)
@@ -75,7 +77,7 @@ without-among v (w ∷ us) {u} a = go (eqb w v) refl (without-among v us)
         among_cases (rw h at a) (λ same. rw same (here, eqb-false w v h)) (λ b. let r = later b in (there r.0, r.1))
 
 -- what is in a list and is not v is in the list without v
-pub among-without : (v : ℕ) {us : List ℕ} {u : ℕ} → Among u us → (u ≡ v → ⊥) → Among u (without v us)
+pub among-without : (v : ℕ) {u : ℕ} {us : List ℕ} → Among u us → (u ≡ v → ⊥) → Among u (without v us)
 unfolding without
 among-without v {u} here ne = rw (ne_eqb u v ne) here
 among-without v {u} (there {u = w} {us = us} a) ne = go (eqb w v) refl (among-without v a ne)
@@ -112,6 +114,7 @@ length_without {v} r (there {u} {us} a) =
 -- the m numbers from a on are those from a to below a + m
 pub from-among : (a m : ℕ) {v : ℕ} → Among v (from a m) → (a ≤ v) × (v < a + m)
 unfolding from
+from-among a zero h = elim h [ ]
 from-among a (suc m) h =
     among_cases h (λ same. omega arith) (λ b. let r = from-among (suc a) m b in omega arith)
 

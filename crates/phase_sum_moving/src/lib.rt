@@ -25,7 +25,7 @@ pub fn both(u: Parity, v: Parity) -> Parity
 // X: wire q complemented.
 pub fn flip_wire(ws: &[u64], fs: &mut [bool], q: usize)
     requires { (q < places_in ws.now) × (q < length fs.old) }
-    ensures { Moves (one X q) (zip_wires (sets_at ws.entry) fs.old) (zip_wires (sets_at ws.entry) fs.new) }
+    ensures { Moves (one X q) (zip_wires (sets_at ws.now) fs.old) (zip_wires (sets_at ws.now) fs.new) }
 {
     fs[q] = !fs[q];
 }
@@ -33,7 +33,7 @@ pub fn flip_wire(ws: &[u64], fs: &mut [bool], q: usize)
 // CX: the control added to the target.
 fn add_wire(ws: &mut [u64], fs: &mut [bool], control: usize, target: usize)
     requires { (control < length fs.old) × (target < length fs.old) × Level ws.old fs.old }
-    ensures { Moves (two CX control target) (zip_wires (sets_at ws.entry) fs.old) (zip_wires (sets_at ws.exit) fs.new) }
+    ensures { Moves (two CX control target) (zip_wires (sets_at ws.old) fs.old) (zip_wires (sets_at ws.new) fs.new) }
 {
     let sum = both(wire(ws, fs, target), wire(ws, fs, control));
     set_wire(ws, fs, target, sum);
@@ -42,7 +42,7 @@ fn add_wire(ws: &mut [u64], fs: &mut [bool], control: usize, target: usize)
 // SWAP: two wires exchanged.
 fn swap_wires(ws: &mut [u64], fs: &mut [bool], a: usize, b: usize)
     requires { (a < length fs.old) × (b < length fs.old) × Level ws.old fs.old }
-    ensures { Moves (two SWAP a b) (zip_wires (sets_at ws.entry) fs.old) (zip_wires (sets_at ws.exit) fs.new) }
+    ensures { Moves (two SWAP a b) (zip_wires (sets_at ws.old) fs.old) (zip_wires (sets_at ws.new) fs.new) }
 {
     let first = wire(ws, fs, a);
     let second = wire(ws, fs, b);
@@ -66,7 +66,7 @@ pub fn moves(kind: u8) -> bool
 // A gate that only moves wires, given by its three bytes.
 pub fn move_wires(kind: u8, a: u8, b: u8, ws: &mut [u64], fs: &mut [bool])
     requires { (moves_only (gate_of (raw kind a b)) ≡ true) × Within (length fs.old) (gate_of (raw kind a b)) × Level ws.old fs.old }
-    ensures { Moves (gate_of (raw kind a b)) (zip_wires (sets_at ws.entry) fs.old) (zip_wires (sets_at ws.exit) fs.new) }
+    ensures { Moves (gate_of (raw kind a b)) (zip_wires (sets_at ws.old) fs.old) (zip_wires (sets_at ws.new) fs.new) }
 {
     let p = a as usize;
     let q = b as usize;

@@ -32,7 +32,7 @@ fn replace_in(w: Parity, z: u32, p: Parity) -> Parity
 // The variable z replaced by the parity p in every wire.
 pub fn replace_in_wires(ws: &mut [u64], fs: &mut [bool], z: u32, p: Parity)
     requires { (z < most_variables) × Level ws.old fs.old }
-    ensures { zip_wires (sets_at ws.exit) fs.new ≡ map (replace_in z (parity_of p)) (zip_wires (sets_at ws.entry) fs.old) }
+    ensures { zip_wires (sets_at ws.new) fs.new ≡ map (replace_in z (parity_of p)) (zip_wires (sets_at ws.old) fs.old) }
 {
     let mut q = 0;
     while q < fs.len() {
@@ -65,9 +65,9 @@ fn with_flip(constant: u8, coeff: u8, flipped: bool) -> u8
 // The variable z replaced by the parity p in the term at a place. Returns the constant, which was given, after that.
 fn replace_at(sets: &mut [u64], coeffs: &mut [u8], i: usize, constant: u8, z: u32, p: Parity) -> u8
     requires { (z < most_variables) × Level sets.old coeffs.old × (i < length coeffs.old) }
-    ensures constant { result ≡ cond (replace_in z (parity_of p) (of (get_or (sets_at sets.entry) i 0))).flipped ((constant + get_or coeffs.old i 0) % 8) constant }
-    ensures sets { sets_at sets.exit ≡ set (sets_at sets.entry) i (replace_in z (parity_of p) (of (get_or (sets_at sets.entry) i 0))).vars }
-    ensures bytes { coeffs.new ≡ set coeffs.old i (cond (replace_in z (parity_of p) (of (get_or (sets_at sets.entry) i 0))).flipped (minus (get_or coeffs.old i 0)) (get_or coeffs.old i 0)) }
+    ensures constant { result ≡ cond (replace_in z (parity_of p) (of (get_or (sets_at sets.old) i 0))).flipped ((constant + get_or coeffs.old i 0) % 8) constant }
+    ensures sets { sets_at sets.new ≡ set (sets_at sets.old) i (replace_in z (parity_of p) (of (get_or (sets_at sets.old) i 0))).vars }
+    ensures bytes { coeffs.new ≡ set coeffs.old i (cond (replace_in z (parity_of p) (of (get_or (sets_at sets.old) i 0))).flipped (minus (get_or coeffs.old i 0)) (get_or coeffs.old i 0)) }
 {
     if holds_at(sets, i, z) {
         let coeff = coeffs[i];
@@ -82,8 +82,8 @@ fn replace_at(sets: &mut [u64], coeffs: &mut [u8], i: usize, constant: u8, z: u3
 // The variable z replaced by the parity p in every term, unmerged. Returns the constant.
 pub fn replace_unmerged(sets: &mut [u64], coeffs: &mut [u8], phase: Phase, z: u32, p: Parity) -> u8
     requires { (z < most_variables) × Level sets.old coeffs.old × (phase.count ≤ length coeffs.old) }
-    ensures constant { result ≡ (rebuild (λ u. replace_in z (parity_of p) (of u)) phase.constant (held phase.count (sets_at sets.entry) coeffs.old)).constant }
-    ensures terms { Stored phase.count (map (sent_to (λ u. replace_in z (parity_of p) (of u))) (held phase.count (sets_at sets.entry) coeffs.old)) phase.count (sets_at sets.entry) coeffs.old (sets_at sets.exit) coeffs.new }
+    ensures constant { result ≡ (rebuild (λ u. replace_in z (parity_of p) (of u)) phase.constant (held phase.count (sets_at sets.old) coeffs.old)).constant }
+    ensures terms { Stored phase.count (map (sent_to (λ u. replace_in z (parity_of p) (of u))) (held phase.count (sets_at sets.old) coeffs.old)) phase.count (sets_at sets.old) coeffs.old (sets_at sets.new) coeffs.new }
 {
     let count = phase.count;
     let mut constant = add(phase.constant, 0);
@@ -98,7 +98,7 @@ pub fn replace_unmerged(sets: &mut [u64], coeffs: &mut [u8], phase: Phase, z: u3
 // The variable y taken out of the first count sets.
 pub fn take_out_unmerged(sets: &mut [u64], count: usize, y: u32)
     requires { (y < most_variables) × (count ≤ places_in sets.old) × Whole sets.old }
-    ensures { sets_at sets.exit ≡ map (out_of y) (take count (sets_at sets.entry)) ++ drop count (sets_at sets.entry) }
+    ensures { sets_at sets.new ≡ map (out_of y) (take count (sets_at sets.old)) ++ drop count (sets_at sets.old) }
 {
     let mut i = 0;
     while i < count {

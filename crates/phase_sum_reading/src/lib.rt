@@ -25,7 +25,7 @@ fn odd_set(set: Set, coeff: u8) -> Set
 // The variables that are in terms of odd coefficient.
 pub fn odd_mask(sets: &[u64], coeffs: &[u8], count: usize) -> Set
     requires { (count ≤ places_in sets.now) × (count ≤ length coeffs.now) }
-    ensures { OddMask (set_of result) (held count (sets_at sets.entry) coeffs.now) }
+    ensures { OddMask (set_of result) (held count (sets_at sets.now) coeffs.now) }
 {
     let mut mask = empty();
     let mut i = 0;
@@ -50,7 +50,7 @@ fn odd_if_both(set: Set, coeff: u8, i: u32, j: u32) -> Set
 // The exclusive or of the sets of the terms of odd coefficient that hold both variables.
 fn odd_both(sets: &[u64], coeffs: &[u8], count: usize, i: u32, j: u32) -> Set
     requires { (i < most_variables) × (j < most_variables) × (count ≤ places_in sets.now) × (count ≤ length coeffs.now) }
-    ensures { set_of result ≡ odd_both i j (held count (sets_at sets.entry) coeffs.now) }
+    ensures { set_of result ≡ odd_both i j (held count (sets_at sets.now) coeffs.now) }
 {
     let mut both = empty();
     let mut t = 0;
@@ -63,8 +63,8 @@ fn odd_both(sets: &[u64], coeffs: &[u8], count: usize, i: u32, j: u32) -> Set
 
 // The same with the mask of the variables in terms of odd coefficient: where it has not both, the terms need no pass.
 pub fn odd_both_in(mask: Set, sets: &[u64], coeffs: &[u8], count: usize, i: u32, j: u32) -> Set
-    requires { (i < most_variables) × (j < most_variables) × (count ≤ places_in sets.now) × (count ≤ length coeffs.now) × OddMask (set_of mask) (held count (sets_at sets) coeffs.now) }
-    ensures { set_of result ≡ odd_both i j (held count (sets_at sets.entry) coeffs.now) }
+    requires { (i < most_variables) × (j < most_variables) × (count ≤ places_in sets.now) × (count ≤ length coeffs.now) × OddMask (set_of mask) (held count (sets_at sets.now) coeffs.now) }
+    ensures { set_of result ≡ odd_both i j (held count (sets_at sets.now) coeffs.now) }
 {
     if holds_both(mask, i, j) {
         return odd_both(sets, coeffs, count, i, j);
@@ -73,7 +73,7 @@ pub fn odd_both_in(mask: Set, sets: &[u64], coeffs: &[u8], count: usize, i: u32,
 }
 
 // The C and L of a variable y: document 01, "Reducing it".
-#[derive(Drop)]
+#[derive(Clone, Copy)]
 pub struct Halves {
     pub c: u8,
     pub l: Set,
@@ -82,7 +82,7 @@ pub struct Halves {
 // The coefficient of the term at a place where it holds y, else 0.
 fn coeff_with(sets: &[u64], coeffs: &[u8], i: usize, y: u32) -> u8
     requires { (y < most_variables) × (i < places_in sets.now) × (i < length coeffs.now) }
-    ensures { result ≡ cond (bit y (get_or (sets_at sets.entry) i 0)) (get_or coeffs.now i 0) 0 }
+    ensures { result ≡ cond (bit y (get_or (sets_at sets.now) i 0)) (get_or coeffs.now i 0) 0 }
 {
     if holds_at(sets, i, y) {
         return coeffs[i];
@@ -93,7 +93,7 @@ fn coeff_with(sets: &[u64], coeffs: &[u8], i: usize, y: u32) -> u8
 // The set of the term at a place without y where it holds y and its half coefficient is odd, else the empty set.
 fn odd_half(sets: &[u64], coeffs: &[u8], i: usize, y: u32) -> Set
     requires { (y < most_variables) × (i < places_in sets.now) × (i < length coeffs.now) }
-    ensures { set_of result ≡ cond (bit y (get_or (sets_at sets.entry) i 0)) (cond (eqb (get_or coeffs.now i 0 / 2 % 2) 1) (out_of y (get_or (sets_at sets.entry) i 0)) 0) 0 }
+    ensures { set_of result ≡ cond (bit y (get_or (sets_at sets.now) i 0)) (cond (eqb (get_or coeffs.now i 0 / 2 % 2) 1) (out_of y (get_or (sets_at sets.now) i 0)) 0) 0 }
 {
     if holds_at(sets, i, y) {
         if coeffs[i] / 2 % 2 == 1 {
@@ -108,8 +108,8 @@ fn odd_half(sets: &[u64], coeffs: &[u8], i: usize, y: u32) -> Set
 // whose half coefficient is odd.
 pub fn halves_of(sets: &[u64], coeffs: &[u8], count: usize, y: u32) -> Halves
     requires { (y < most_variables) × (count ≤ places_in sets.now) × (count ≤ length coeffs.now) }
-    ensures c { result.c ≡ half_sum y (held count (sets_at sets.entry) coeffs.now) }
-    ensures l { set_of result.l ≡ odd_halves y (held count (sets_at sets.entry) coeffs.now) }
+    ensures c { result.c ≡ half_sum y (held count (sets_at sets.now) coeffs.now) }
+    ensures l { set_of result.l ≡ odd_halves y (held count (sets_at sets.now) coeffs.now) }
 {
     let mut sum = 0;
     let mut l = empty();

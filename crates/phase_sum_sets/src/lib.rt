@@ -39,7 +39,7 @@ pub fn single(v: u32) -> Set
 // The set at a place of a slice.
 pub fn load(words: &[u64], i: usize) -> Set
     requires { i < places_in words.now }
-    ensures { set_of result ≡ get_or (sets_at words.entry) i 0 }
+    ensures { set_of result ≡ get_or (sets_at words.now) i 0 }
 {
     let at = WORDS_EACH * i;
     Set {
@@ -51,7 +51,7 @@ pub fn load(words: &[u64], i: usize) -> Set
 // A set put at a place of a slice.
 pub fn store(words: &mut [u64], i: usize, s: Set)
     requires { (i < places_in words.old) × Whole words.old }
-    ensures { sets_at words.exit ≡ set (sets_at words.entry) i (set_of s) }
+    ensures { sets_at words.new ≡ set (sets_at words.old) i (set_of s) }
 {
     let at = WORDS_EACH * i;
     words[at] = s.low;
@@ -102,7 +102,7 @@ pub fn holds(s: Set, v: u32) -> bool
 // Is the variable in the set at a place?
 pub fn holds_at(words: &[u64], i: usize, v: u32) -> bool
     requires { (i < places_in words.now) × (v < most_variables) }
-    ensures { result ≡ bit v (get_or (sets_at words.entry) i 0) }
+    ensures { result ≡ bit v (get_or (sets_at words.now) i 0) }
 {
     let at = WORDS_EACH * i + (v / WORD_BITS) as usize;
     (words[at] >> (v % WORD_BITS)) % 2 == 1
@@ -111,7 +111,7 @@ pub fn holds_at(words: &[u64], i: usize, v: u32) -> bool
 // The variable taken out of the set at a place.
 pub fn remove_at(words: &mut [u64], i: usize, v: u32)
     requires { (i < places_in words.old) × (v < most_variables) × Whole words.old }
-    ensures { sets_at words.exit ≡ set (sets_at words.entry) i (out_of v (get_or (sets_at words.entry) i 0)) }
+    ensures { sets_at words.new ≡ set (sets_at words.old) i (out_of v (get_or (sets_at words.old) i 0)) }
 {
     let at = WORDS_EACH * i + (v / WORD_BITS) as usize;
     let word = words[at];

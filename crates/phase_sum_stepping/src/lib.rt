@@ -4,7 +4,7 @@
 ghost use Rattle.std.specs.Prelude.{◌≡◌, ◌+◌, ◌<◌, ◌≤◌, cond, length, eqb};
 ghost use Rattle.phase_sum_meaning.specs.Stepping.{replace, take_out, turned};
 ghost use Rattle.phase_sum_meaning.specs.Room.{most_variables};
-ghost use Rattle.phase_sum_types.specs.Workspace.{set_of, parity_of, Level, Levelled, lent, before, after, Stands, Changed, TermsChanged};
+ghost use Rattle.phase_sum_types.specs.Workspace.{set_of, parity_of, Level, Levelled, lent, Stands, Changed, TermsChanged};
 
 use phase_sum_merging::canonical;
 use phase_sum_passing::{replace_in_wires, replace_unmerged, take_out_unmerged};
@@ -22,8 +22,8 @@ pub fn replace(
     sets: &mut [u64],
     coeffs: &mut [u8],
 ) -> Sum
-    requires { (z < most_variables) × Stands sum (lent ws fs sets coeffs) × Levelled ws fs sets coeffs }
-    ensures { Changed (replace z (parity_of p)) sum.phase.count sum result (before ws fs sets coeffs) (after ws fs sets coeffs) }
+    requires { (z < most_variables) × Stands sum (lent ws.old fs.old sets.old coeffs.old) × Levelled ws.old fs.old sets.old coeffs.old }
+    ensures { Changed (replace z (parity_of p)) sum.phase.count sum result (lent ws.old fs.old sets.old coeffs.old) (lent ws.new fs.new sets.new coeffs.new) }
 {
     let phase = sum.phase;
     let count = phase.count;
@@ -41,7 +41,7 @@ pub fn replace(
 // The variable y taken out of every term, and the terms merged.
 pub fn take_out(sum: Sum, y: u32, sets: &mut [u64], coeffs: &mut [u8]) -> Sum
     requires { (y < most_variables) × Level sets.old coeffs.old × (sum.phase.count ≤ length coeffs.old) }
-    ensures { TermsChanged (take_out y) sum.phase.count sum result sets coeffs }
+    ensures { TermsChanged (take_out y) sum.phase.count sum result sets.old coeffs.old sets.new coeffs.new }
 {
     let phase = sum.phase;
     let count = phase.count;
@@ -72,7 +72,7 @@ fn turn_coeff(c: u8) -> u8
 // The variable y taken out of every term, the constant and the term of a turn of c on l added, and the terms merged.
 pub fn turn_out(sum: Sum, y: u32, c: u8, l: Set, sets: &mut [u64], coeffs: &mut [u8]) -> Sum
     requires { (y < most_variables) × Level sets.old coeffs.old × (sum.phase.count < length coeffs.old) }
-    ensures { TermsChanged (λ s. turned c (set_of l) (take_out y s)) (sum.phase.count + 1) sum result sets coeffs }
+    ensures { TermsChanged (λ s. turned c (set_of l) (take_out y s)) (sum.phase.count + 1) sum result sets.old coeffs.old sets.new coeffs.new }
 {
     let phase = sum.phase;
     let count = phase.count;
@@ -98,8 +98,8 @@ pub fn join_out(
     sets: &mut [u64],
     coeffs: &mut [u8],
 ) -> Sum
-    requires { (y < most_variables) × (z < most_variables) × Stands sum (lent ws fs sets coeffs) × Levelled ws fs sets coeffs }
-    ensures { Changed (λ s. replace z (parity_of p) (take_out y s)) sum.phase.count sum result (before ws fs sets coeffs) (after ws fs sets coeffs) }
+    requires { (y < most_variables) × (z < most_variables) × Stands sum (lent ws.old fs.old sets.old coeffs.old) × Levelled ws.old fs.old sets.old coeffs.old }
+    ensures { Changed (λ s. replace z (parity_of p) (take_out y s)) sum.phase.count sum result (lent ws.old fs.old sets.old coeffs.old) (lent ws.new fs.new sets.new coeffs.new) }
 {
     let phase = sum.phase;
     let count = phase.count;

@@ -24,7 +24,7 @@ pub fn negate(c: u8) -> u8
 // A term behind the first count terms, unmerged. Returns the new count.
 pub fn append(sets: &mut [u64], coeffs: &mut [u8], count: usize, set: Set, coeff: u8) -> usize
     requires { Level sets.old coeffs.old × (count < length coeffs.old) }
-    ensures { Stored count (held count (sets_at sets.entry) coeffs.old ++ term (set_of set) coeff ∷ []) result (sets_at sets.entry) coeffs.old (sets_at sets.exit) coeffs.new }
+    ensures { Stored count (held count (sets_at sets.old) coeffs.old ++ term (set_of set) coeff ∷ []) result (sets_at sets.old) coeffs.old (sets_at sets.new) coeffs.new }
 {
     store(sets, count, set);
     coeffs[count] = coeff;
@@ -58,7 +58,7 @@ fn zero_bytes(bytes: &mut [u8], from: usize, to: usize)
 // Zeros in both workspaces from one place up to another.
 pub fn zero(sets: &mut [u64], coeffs: &mut [u8], from: usize, to: usize)
     requires { (from ≤ to) × Level sets.old coeffs.old × (to ≤ length coeffs.old) }
-    ensures sets { sets_at sets.exit ≡ take from (sets_at sets.entry) ++ replicate (to - from) 0 ++ drop to (sets_at sets.entry) }
+    ensures sets { sets_at sets.new ≡ take from (sets_at sets.old) ++ replicate (to - from) 0 ++ drop to (sets_at sets.old) }
     ensures bytes { coeffs.new ≡ take from coeffs.old ++ replicate (to - from) 0 ++ drop to coeffs.old }
 {
     zero_words(sets, WORDS_EACH * from, WORDS_EACH * to);
@@ -87,7 +87,7 @@ fn share(set: Set, coeff: u8, input: u64) -> u8
 // The phase at an input, mod 8.
 pub fn phase_at(sets: &[u64], coeffs: &[u8], phase: Phase, input: u64) -> u8
     requires { (phase.count ≤ places_in sets.now) × (phase.count ≤ length coeffs.now) }
-    ensures { result ≡ phase_at (record { constant = phase.constant; terms = held phase.count (sets_at sets.entry) coeffs.now }) input % 8 }
+    ensures { result ≡ phase_at (record { constant = phase.constant; terms = held phase.count (sets_at sets.now) coeffs.now }) input % 8 }
 {
     let count = phase.count;
     let mut sum = add(phase.constant, 0);

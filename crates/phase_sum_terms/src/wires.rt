@@ -9,7 +9,7 @@ use phase_sum_types::Parity;
 // Wire q.
 pub fn wire(ws: &[u64], fs: &[bool], q: usize) -> Parity
     requires { (q < places_in ws.now) × (q < length fs.now) }
-    ensures { parity_of result ≡ get_or (zip_wires (sets_at ws.entry) fs.now) q (of 0) }
+    ensures { parity_of result ≡ get_or (zip_wires (sets_at ws.now) fs.now) q (of 0) }
 {
     Parity {
         set: load(ws, q),
@@ -20,7 +20,7 @@ pub fn wire(ws: &[u64], fs: &[bool], q: usize) -> Parity
 // Wire q set anew.
 pub fn set_wire(ws: &mut [u64], fs: &mut [bool], q: usize, w: Parity)
     requires { Level ws.old fs.old × (q < length fs.old) }
-    ensures { zip_wires (sets_at ws.exit) fs.new ≡ set (zip_wires (sets_at ws.entry) fs.old) q (parity_of w) }
+    ensures { zip_wires (sets_at ws.new) fs.new ≡ set (zip_wires (sets_at ws.old) fs.old) q (parity_of w) }
 {
     store(ws, q, w.set);
     fs[q] = w.flipped;

@@ -38,6 +38,7 @@ first_among test s (v ∷ vs) = go (bit v s) (first_among test s vs)
 -- what a list has of a set is in both
 among-held : (s : ℕ) (vs : List ℕ) {v : ℕ} → Among v (among s vs) → Among v vs × (bit v s ≡ true)
 unfolding among
+among-held s [] a = elim a [ ]
 among-held s (u ∷ vs) {v} a = go (bit u s) refl (among-held s vs)
   where
     go : (b : Bool) → bit u s ≡ b → (Among v (among s vs) → Among v vs × (bit v s ≡ true)) → Among v (u ∷ vs) × (bit v s ≡ true)
@@ -45,7 +46,7 @@ among-held s (u ∷ vs) {v} a = go (bit u s) refl (among-held s vs)
     go false h later = let r = later (rw h at a) in (there r.0, r.1)
 
 -- what is in both a list has of the set
-held-among : (s : ℕ) {vs : List ℕ} {v : ℕ} → Among v vs → bit v s ≡ true → Among v (among s vs)
+held-among : (s : ℕ) {v : ℕ} {vs : List ℕ} → Among v vs → bit v s ≡ true → Among v (among s vs)
 unfolding among
 held-among s here e = rw e here
 held-among s {v} (there {u = u} {us = us} a) e = go (bit u s) (held-among s a e)

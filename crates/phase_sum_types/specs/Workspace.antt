@@ -3,8 +3,6 @@
 -- Assumes nothing.
 use Rattle.std.specs.Prelude.{◌≡◌, ℕ, ◌+◌, ◌-◌, ◌*◌, ◌/◌, ◌%◌, ◌≤◌, Bool, cond, List, [], ◌∷◌, ◌++◌, map, length, take, drop, replicate}
 use Rattle.std.proofs.Math.Option.{Option, none, some}
-use Rattle.std.specs.Borrow.{Bor}
-use denote.Triple.Both.{Both}
 use Rattle.amplitude.specs.Bits.{bit}
 use Rattle.phase_sum_meaning.specs.Sets.{from}
 use Rattle.phase_sum_meaning.specs.Parity.{Parity, of}
@@ -29,8 +27,8 @@ unfoldable pub set_of : Set → ℕ
 set_of s = wide (words_of_set s)
 
 -- the sets that a slice of words holds, one behind the other
-abbrev pub sets_at : Bor (List ℕ) → List ℕ
-sets_at ws = sets_in words_each ws.now
+abbrev pub sets_at : List ℕ → List ℕ
+sets_at ws = sets_in words_each ws
 
 -- how many sets words have a place for
 abbrev pub places_in : List ℕ → ℕ
@@ -116,25 +114,13 @@ pub record Lent : Type 0 where
 abbrev pub slices : List ℕ → List Bool → List ℕ → List ℕ → Lent
 slices ws fs ss cs = record { wires = ws; flips = fs; sets = ss; coeffs = cs }
 
--- the four by their references
-abbrev pub lent : Bor (List ℕ) → Bor (List Bool) → Bor (List ℕ) → Bor (List ℕ) → Lent
-lent ws fs ss cs = slices (sets_at ws) fs.now (sets_at ss) cs.now
+-- the four by what the slices hold, the sets by their words: before a call or after it
+abbrev pub lent : List ℕ → List Bool → List ℕ → List ℕ → Lent
+lent ws fs ss cs = slices (sets_at ws) fs (sets_at ss) cs
 
 -- in the four slices each word is one of a set that has its place in the other slice
-abbrev pub Levelled : Bor (List ℕ) → Bor (List Bool) → Bor (List ℕ) → Bor (List ℕ) → Type 0
-Levelled ws fs ss cs = Level ws.now fs.now × Level ss.now cs.now
-
--- a reference as a call finds it and as it leaves it
-abbrev Passed : Type 0 → Type 0
-Passed A = Both (Bor A) (Bor A)
-
--- what they hold before a call
-abbrev pub before : Passed (List ℕ) → Passed (List Bool) → Passed (List ℕ) → Passed (List ℕ) → Lent
-before ws fs ss cs = lent ws.entry fs.entry ss.entry cs.entry
-
--- what they hold after it
-abbrev pub after : Passed (List ℕ) → Passed (List Bool) → Passed (List ℕ) → Passed (List ℕ) → Lent
-after ws fs ss cs = lent ws.exit fs.exit ss.exit cs.exit
+abbrev pub Levelled : List ℕ → List Bool → List ℕ → List ℕ → Type 0
+Levelled ws fs ss cs = Level ws fs × Level ss cs
 
 -- the parities of the wires
 abbrev pub wires_in : Lent → List Parity
@@ -174,10 +160,10 @@ abbrev pub Changed : (PathSum → PathSum) → ℕ → Sum → Sum → Lent → 
 Changed f m s r l l' = Became (f (sum_of s l)) m r l l'
 
 -- what a call leaves that changed a sum by f and was not lent its wires
-abbrev pub TermsChanged : (PathSum → PathSum) → ℕ → Sum → Sum → Passed (List ℕ) → Passed (List ℕ) → Type 0
-TermsChanged f m s r ss cs =
+abbrev pub TermsChanged : (PathSum → PathSum) → ℕ → Sum → Sum → List ℕ → List ℕ → List ℕ → List ℕ → Type 0
+TermsChanged f m s r ss cs ss' cs' =
     (ws : List ℕ) (fs : List Bool) →
-    Changed f m s r (slices ws fs (sets_at ss.entry) cs.entry.now) (slices ws fs (sets_at ss.exit) cs.exit.now)
+    Changed f m s r (slices ws fs (sets_at ss) cs) (slices ws fs (sets_at ss') cs')
 
 -- what reducing a sum asks of its slices: at most 16 wires, a constant bit for each, and room for the terms and one more for each variable
 -- left

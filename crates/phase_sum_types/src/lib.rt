@@ -7,7 +7,7 @@
 #![tactic(auto)]
 
 // A set of variables in two words, the low variables first: variable v is in it where bit v % WORD_BITS of word v / WORD_BITS is 1.
-#[derive(Drop)]
+#[derive(Clone, Copy)]
 pub struct Set {
     pub low: u64,
     pub high: u64,
@@ -20,14 +20,14 @@ pub const WORD_BITS: u32 = 64;
 pub const WORDS_EACH: usize = 2;
 
 // A parity: of a set of variables, complemented where flipped. A wire of document 01 is one; so is what a pin or a join sets to 0.
-#[derive(Drop)]
+#[derive(Clone, Copy)]
 pub struct Parity {
     pub set: Set,
     pub flipped: bool,
 }
 
 // A phase whose terms stand in the first places of two lent workspaces.
-#[derive(Drop)]
+#[derive(Clone, Copy)]
 pub struct Phase {
     pub constant: u8,
     pub count: usize,
@@ -35,7 +35,7 @@ pub struct Phase {
 
 // A path sum. Its wires stand in two lent slices, their sets in one and their constant bits in the other, one place a qubit; its terms stand
 // in the workspaces.
-#[derive(Drop)]
+#[derive(Clone, Copy)]
 pub struct Sum {
     // the path variables that are left
     pub live: Set,
@@ -43,7 +43,7 @@ pub struct Sum {
 }
 
 // A path sum under construction, in slices like these: all path variables from n up to the next one are left.
-#[derive(Drop)]
+#[derive(Clone, Copy)]
 pub struct Run {
     // the next path variable's number
     pub next: u32,
@@ -51,7 +51,7 @@ pub struct Run {
 }
 
 // What a search for a variable finds.
-#[derive(Drop)]
+#[derive(Clone, Copy)]
 pub enum Found {
     Variable(u32),
     Nothing,

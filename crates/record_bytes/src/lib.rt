@@ -1,5 +1,6 @@
 // The record layer, its leaves: two-byte numbers, the mark, one gate's three bytes, and the number of a refusal.
 #![tactic(auto)]
+
 ghost use Rattle.std.specs.Prelude.{◌≡◌, ◌/◌, ◌%◌, ◌≤◌, length};
 ghost use Rattle.record_format.specs.Format.{from_bytes};
 ghost use Rattle.record_format.specs.Gate.{raw, inverse_number};
@@ -71,6 +72,7 @@ pub fn has_mark(s: &[u8], mark: [u8; 2]) -> bool
 }
 
 // The bytes of the gate at an index against n qubits: 5, then 7, then 6.
+#[tactic(auto, unfolding(record_format::specs::Row::first))]
 pub fn check_gate(n: usize, gate: usize, kind: u8, a: u8, b: u8) -> GateCheck
     ensures { gate_fault result ≡ first (gate_rows n gate (raw kind a b)) }
 {
@@ -99,6 +101,7 @@ pub fn check_gate(n: usize, gate: usize, kind: u8, a: u8, b: u8) -> GateCheck
 }
 
 // Kinds 3 and 4, 5 and 6 exchanged.
+#[tactic(auto, unfolding(record_format::specs::Gate::inverse_number))]
 pub fn inverse_kind(kind: u8) -> u8
     ensures { result ≡ inverse_number kind }
 {

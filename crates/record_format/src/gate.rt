@@ -25,7 +25,7 @@ pub const CZ: u8 = 9;
 pub const SWAP: u8 = 10;
 
 // What the check of one gate, or of several in turn, finds.
-#[derive(Drop)]
+#[derive(Clone, Copy)]
 pub enum GateCheck {
     Good,
     Refused(Refusal),

@@ -11,7 +11,7 @@ pub const HEAD_SIZE: usize = 5;
 pub const GATE_SIZE: usize = 3;
 
 // Why a call is turned down. specs/Answer.antt gives each case the table's number and the index of its gate.
-#[derive(Drop)]
+#[derive(Clone, Copy)]
 pub enum Refusal {
     // 1: fewer than 5 bytes, or than the 12 of a report
     Short,
@@ -36,21 +36,21 @@ pub enum Refusal {
 }
 
 // What check answers: the record's qubits and gates, or why it is refused.
-#[derive(Drop)]
+#[derive(Clone, Copy)]
 pub enum Checked {
     Accepted { n: usize, g: usize },
     Refused(Refusal),
 }
 
 // What a writer answers: the length of the record that it wrote, or why it wrote nothing.
-#[derive(Drop)]
+#[derive(Clone, Copy)]
 pub enum Written {
     Length(usize),
     Refused(Refusal),
 }
 
 // A report's eight fields. Verdict: 0 equal, 1 different, 2 undecided, 3 turned.
-#[derive(Drop)]
+#[derive(Clone, Copy)]
 pub struct Report {
     pub verdict: u8,
     pub first: u16,
@@ -63,7 +63,7 @@ pub struct Report {
 }
 
 // What the report reader answers.
-#[derive(Drop)]
+#[derive(Clone, Copy)]
 pub enum ReportRead {
     Fields(Report),
     Refused(Refusal),

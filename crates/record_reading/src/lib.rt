@@ -1,5 +1,6 @@
 // The record layer, reading: the check call, and the gate bytes as a part of the caller's slice.
 #![tactic(auto)]
+
 ghost use Rattle.std.specs.Prelude.{◌≡◌, ◌+◌, ◌*◌, ◌≤◌, length, take, drop};
 ghost use Rattle.record_format.specs.Format.{head_size, gate_size};
 ghost use Rattle.record_format.specs.Row.{first};

@@ -1,5 +1,6 @@
 // The record layer, the report record: its writer and its reader.
 #![tactic(auto)]
+
 ghost use Rattle.std.specs.Prelude.{◌≡◌};
 ghost use Rattle.record_format.specs.Answer.{written_answer, report_answer};
 ghost use Rattle.record_format.specs.Report.{write_report, read_report};

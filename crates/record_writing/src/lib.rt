@@ -1,6 +1,7 @@
 // The record layer, writing: the builder (start, add) and the inverse. The last two functions, which have a `requires`, are no calls: they are
 // public for `joining_writing`, and `records` does not pass them on.
 #![tactic(auto)]
+
 mod builder;
 mod inverter;
 
