@@ -14,7 +14,7 @@ use Rattle.record_format.specs.Gate.{Gate, AllWithin}
 use Rattle.phase_sum_meaning.specs.Parity.{Parity}
 use Rattle.phase_sum_meaning.specs.Building.{PathSum}
 use Rattle.phase_sum_meaning.specs.Stepping.{take_out, turned, Kind, sum, turn, constraint, kind_of}
-use Rattle.comparison_meaning.specs.Reduction.{Counts, counts, End, blocks}
+use Rattle.comparison_meaning.specs.Reduction.{Counts, End, stops, blocks}
 use Rattle.comparison_meaning.specs.Steps.{Ready, c_of, l_of, Step, sums, turns, joins, Blocked}
 use Rattle.comparison_meaning.specs.Verdict.{Verdict, undecided, Result, result, left, power, judge, searched, miter, pinned_of, reduced_of, compare}
 use Rattle.comparison_meaning.specs.Course.{Lowest, PathVariable, Pins, every_qubit, pins, agrees, unpinnable, TakesLowest, Reduces, none_ready, obstructed, steps_on, Continues, further, halted, Stuck, Judged, blocked, unready, unsized, found, same, rotated, Shown, shows, Course}
@@ -53,12 +53,16 @@ length_zero (v ∷ vs) e = absurd (omega arith)
 one_lowest : {P : ℕ → Type 0} {y z : ℕ} → Lowest P y → Lowest P z → y ≡ z
 one_lowest {y} {z} a b = omega (arith, a.least z b.is, b.least y a.is)
 
+-- pinning from the last qubit on stops at once
+pins_none : {scratch n q : ℕ} {s : PathSum} {c : Counts} {e : End} → Pins scratch n q s c e → q ≡ n → stops s c ≡ e
+pins_none every_qubit last = refl
+pins_none (pins z l low more) last = absurd (omega arith)
+pins_none (agrees l empty zer more) last = absurd (omega arith)
+pins_none (unpinnable l empty nonzero) last = absurd (omega arith)
+
 -- pinning leads to one end
 one_pinning : {scratch n q : ℕ} {s : PathSum} {c : Counts} {e f : End} → Pins scratch n q s c e → Pins scratch n q s c f → e ≡ f
-one_pinning every_qubit every_qubit = refl
-one_pinning every_qubit (pins z l low more) = absurd (omega arith)
-one_pinning every_qubit (agrees l empty zer more) = absurd (omega arith)
-one_pinning every_qubit (unpinnable l empty nonzero) = absurd (omega arith)
+one_pinning every_qubit more = pins_none more refl
 one_pinning (pins z l low more) every_qubit = absurd (omega arith)
 one_pinning {scratch} {n} {q} {s} {c} {f} (pins z l low more) (pins y m low' more') =
     one_pinning more

@@ -205,7 +205,7 @@ reduces_from n (suc m) s c g l = go (reduces_from n m) (first_ready s.live s.pha
     go later (some y) e = rw (e, reduce_from) (taken later (outcome n y s c g (first_is_lowest n y s g e)))
 
 -- a step may come before others
-step_first : {s t u : PathSum} {c d e : Counts} → Step s c t d → Steps t d u e → Steps s c u e
+step_first : {s t : PathSum} {c d : Counts} {u : PathSum} {e : Counts} → Step s c t d → Steps t d u e → Steps s c u e
 step_first step Steps.none = more Steps.none step
 step_first step (more before last) = more (step_first step before) last
 

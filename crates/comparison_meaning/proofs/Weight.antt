@@ -342,6 +342,7 @@ module _ {φ : Phase} where
 
   -- where none is found, all are the same
   none_found : {us : List ℕ} {u : ℕ} → Search φ us none → Among u us → Same φ u
+  none_found {u = u} end a = elim a [ ]
   none_found (pass s r) here = s
   none_found (pass s r) (there a) = none_found r a
 

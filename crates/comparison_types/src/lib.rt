@@ -1,6 +1,7 @@
 // The comparison layer, its base: answers and numbers, where a reduction stands, and what the contracts of the layer say (specs/). Document
 // 01, "Reducing it", "Report, pick, builder" and "Where a call is turned down"; document 02, item 4. Licensees use `comparison`.
 #![tactic(auto)]
+
 ghost use Rattle.std.specs.Prelude.{◌≡◌, ◌≤◌};
 ghost use Rattle.record_format.specs.Format.{last_verdict};
 ghost use Rattle.record_format.specs.Answer.{fields};

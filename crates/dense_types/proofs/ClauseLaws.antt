@@ -18,7 +18,7 @@ use Rattle.comparison_types.proofs.Theorems.{first_accepted, second_accepted, sa
 use Rattle.comparison_types.specs.Promises.{pair_table}
 use Rattle.dense_meaning.specs.Columns.{Finding, carried_by, unfit_at, finding}
 use Rattle.dense_meaning.proofs.Theorems.{found_if_carried, shown_is_first, shown_is_unfit}
-use Rattle.dense_types.specs.Call.{Found, found, says, compare_columns, found_of, said_of, dense_comparison}
+use Rattle.dense_types.specs.Call.{Found, found, compare_columns, found_of, said_of, dense_comparison}
 use Rattle.dense_types.specs.Clauses.{ExactlyDecided, ShownApart, ShownFirst, ShownAsSaid, ForFound, Exact, Sound, First, Inputs, SameVerdict, Agrees}
 use Rattle.dense_types.specs.declared.Outcome.{Outcome}
 use Rattle.dense_types.specs.declared.Answer.{Answer}

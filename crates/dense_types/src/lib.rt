@@ -1,5 +1,6 @@
 // The dense layer, its answers: types, and what the call answers and promises (specs/). Document 02, items 2 and 4. Licensees use `dense`.
 #![tactic(auto)]
+
 use comparison_types::{Refusal, Verdict};
 
 // What the dense comparison found: the verdict, never undecided, and two inputs. They are those that a difference shows; of turned the first is

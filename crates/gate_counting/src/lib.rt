@@ -1,5 +1,6 @@
 // Counting the gates of a list by its bytes, three bytes a gate: one weighted tally, by which the H gates and the T gates are counted.
 #![tactic(auto)]
+
 ghost use Rattle.std.specs.Prelude.{◌≡◌, ℕ};
 ghost use Rattle.record_format.specs.Gate.{gate_of, raw};
 ghost use Rattle.record_format.specs.Reading.{gates_in};

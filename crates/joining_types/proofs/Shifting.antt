@@ -25,9 +25,17 @@ use Rattle.joining_types.specs.Inner.{shift_three, shift_bytes}
 -- a gate's bytes with its qubits further on
 shift_gate_lem : (k : ℕ) (g : Gate) (rest : List ℕ) → shift_bytes k (gate_bytes g ++ rest) ≡ gate_bytes (shift_gate k g) ++ shift_bytes k rest
 unfolding shift_bytes gate_bytes shift_gate one_qubit_kind two_qubit_kind
-shift_gate_lem k (one u a) rest =
-    elim u [ X ↦ refl | Y ↦ refl | Z ↦ refl | S ↦ refl | S† ↦ refl | T ↦ refl | T† ↦ refl | H ↦ refl ]
-shift_gate_lem k (two v a b) rest = elim v [ CX ↦ refl | CZ ↦ refl | SWAP ↦ refl ]
+shift_gate_lem k (one X a) rest = refl
+shift_gate_lem k (one Y a) rest = refl
+shift_gate_lem k (one Z a) rest = refl
+shift_gate_lem k (one S a) rest = refl
+shift_gate_lem k (one S† a) rest = refl
+shift_gate_lem k (one T a) rest = refl
+shift_gate_lem k (one T† a) rest = refl
+shift_gate_lem k (one H a) rest = refl
+shift_gate_lem k (two CX a b) rest = refl
+shift_gate_lem k (two CZ a b) rest = refl
+shift_gate_lem k (two SWAP a b) rest = refl
 
 -- those of gates
 shift_body : (k : ℕ) (gs : List Gate) → body_bytes (shift_list k gs) ≡ shift_bytes k (body_bytes gs)

@@ -1,5 +1,6 @@
 // The joining layer, its base: what a join answers, and what its calls do and promise (specs/). Document 02, item 5. Licensees use `joining`.
 #![tactic(auto)]
+
 ghost use Rattle.std.specs.Prelude.{◌≡◌};
 ghost use Rattle.joining_types.specs.Call.{number_of};
 
