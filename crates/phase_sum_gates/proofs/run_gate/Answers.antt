@@ -1,6 +1,5 @@
 -- `phase_sum_gates::run_gate` meets its contract.
 -- Assumes nothing.
-use Prim.Native.Nat.{◌<◌}
 use native.Mathlib.Omega.{arith}
 use lib.ListN.{length}
 use Rattle.amplitude.specs.Circuit.{tally}
@@ -35,13 +34,22 @@ pub returns-then-kind-eq-CZ : goal.returns-then-kind-eq-CZ
 returns-then-kind-eq-CZ c = let is-cz = c.if-kind-eq-CZ.true in
     rw kind_cz c.controlled_z.ensures
 
+-- the kinds that the tests leave are those of the diagonal gates
 pub diagonal_of-requires : goal.diagonal_of-requires
-diagonal_of-requires c = (let it : let k = c.args.kind in (1 < k) × (k < 7) = kind_diagonal c.args.kind c.args.a c.args.b c.requires.0 c.if-kind-eq-Y.false c.if-kind-eq-H.false c.if-kind-eq-CZ.false in it)
+diagonal_of-requires c =
+    let a = c.args in
+    kind_diagonal a.kind a.a a.b c.requires.0 c.if-kind-eq-Y.false c.if-kind-eq-H.false c.if-kind-eq-CZ.false
 
 pub diagonal-requires : goal.diagonal-requires
 unfolding tally
-diagonal-requires c = let a = c.args in
+diagonal-requires c =
+    let a = c.args in
     let fits = c.requires.1 in
-    let room = diagonal_room a.kind a.a a.b ((let it : let k = c.args.kind in (1 < k) × (k < 7) = kind_diagonal c.args.kind c.args.a c.args.b c.requires.0 c.if-kind-eq-Y.false c.if-kind-eq-H.false c.if-kind-eq-CZ.false in it)).0 ((let it : let k = c.args.kind in (1 < k) × (k < 7) = kind_diagonal c.args.kind c.args.a c.args.b c.requires.0 c.if-kind-eq-Y.false c.if-kind-eq-H.false c.if-kind-eq-CZ.false in it)).1 in
-    let within = bytes_within (length (sets_at a.ws.now)) a.kind a.a a.b fits.within.0 in
-    (omega (arith, within.0, fits.flips), omega (arith, fits.flips, fits.started), omega (arith, room, fits.coeffs), c.requires.2)
+    let kinds = kind_diagonal a.kind a.a a.b c.requires.0 c.if-kind-eq-Y.false c.if-kind-eq-H.false c.if-kind-eq-CZ.false in
+    let room = diagonal_room a.kind a.a a.b kinds.0 kinds.1 in
+    let within = bytes_within (length (sets_at a.ws.now)) a.kind a.a a.b fits.within.0 in (
+      omega (arith, within.0, fits.flips),
+      omega (arith, fits.flips, fits.started),
+      omega (arith, room, fits.coeffs),
+      c.requires.2,
+    )
