@@ -1,7 +1,7 @@
 #!/usr/bin/env python3
 """Instructions for the canonical form of terms: the engine's and, in Rust, the standard library's sort and dedup.
 
-    rt check phase_sum_vectors && python3 bench/canonical.py [PROGRAM]
+    tools/build phase_sum_vectors && python3 bench/canonical.py [PROGRAM]
 
 Counted by valgrind's callgrind: a run that makes the canonical form, less a run on the same input that does not. PROGRAM is another
 build of the program, to compare with.

@@ -1,7 +1,7 @@
 #!/usr/bin/env python3
 """Instructions for whole comparisons: the engine's program and the plain Rust program of the same steps, family by family.
 
-    rt check compare && python3 bench/compare.py [--write] [--engine PROGRAM] [--before PROGRAM]
+    tools/build compare && python3 bench/compare.py [--write] [--engine PROGRAM] [--before PROGRAM]
 
 Counted by valgrind's callgrind, less those of a pair of empty lists on 1 qubit: on 16 qubits that pair itself goes through the search, over
 up to 696 inputs, so that a change of the search would move the zero of the scale. The large families are on 16 qubits, with 48 H gates in

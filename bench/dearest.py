@@ -3,7 +3,7 @@
 both lists, or 112: a shared list into which blocks that do nothing, but for a power of ω, are inserted, other ones in each of the two lists. Such
 pairs are drawn in many mixes; then the dearest few are changed step by step in ways that keep them so, and the dearest kept.
 
-    rt check compare && python3 bench/dearest.py [EVALUATIONS] [--variables 128] [--engine PROGRAM]
+    tools/build compare && python3 bench/dearest.py [EVALUATIONS] [--variables 128] [--engine PROGRAM]
 
 The dearest pair goes to bench/dearest.pair or bench/dearest-128.pair, two records one after the other, which bench/compare.py measures in a line of
 its own. What counts is the engine's instructions less those of an empty pair; a pair that comes out neither equal nor turned counts nothing. The same engine

@@ -1,7 +1,7 @@
 #!/usr/bin/env python3
 """Instructions for small blocks: the program of the dense comparison and the plain Rust program of the same method, family by family.
 
-    rt check compare_small && python3 bench/dense.py [--write]
+    tools/build compare_small && python3 bench/dense.py [--write]
 
 Counted by valgrind's callgrind, less those of a pair of empty lists on 1 qubit. In each family two pairs are equal, so that every
 column of both lists is run, and one has a gate changed besides. With --write the table goes to docs/BENCHMARKS.md.

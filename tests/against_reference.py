@@ -2,7 +2,7 @@
 """Holds the engine to the independent implementation beside this file: the programs record_calls and pair_calls, which drive
 every public call with rows of text, and the programs compare and compare_small, which read two records.
 
-    rt check record_calls pair_calls compare compare_small && python3 tests/against_reference.py [TIMES]
+    tools/build record_calls pair_calls compare compare_small && python3 tests/against_reference.py [TIMES]
 
 Fixed cases at the limits come first, then random families (random_pairs.py) that reach every rule; TIMES multiplies the random cases. Up to
 6 qubits, equal, turned by its power and different are also held to exact dense columns, and so are joins, to the product of the two lists'. Small
@@ -131,7 +131,7 @@ class Check:
 def program(name):
     path = os.path.join(ROOT, "target", "bin", name)
     if not os.path.exists(path):
-        fail(f"target/bin/{name} is not built: rt check {name}")
+        fail(f"target/bin/{name} is not built: tools/build {name}")
     return path
 
 

@@ -84,7 +84,7 @@ def readme_faults(crates):
     told = [(number, word.split()[0].strip(",;:")) for numbers, words in table for number, word in zip(numbers.split(", "), words.split(", "))]
     if sorted(told) != sorted(re.findall(r"^ +(\d+)  (\w+)", text("compare"), flags=re.M)):
         faults.append("README.md has other exit statuses than compare --help")
-    last = re.search(r"^lastVerdict = (\d+)$", text("crates/record_format/specs/Format.antt"), flags=re.M)
+    last = re.search(r"^last_verdict = (\d+)$", text("crates/record_format/specs/Format.antt"), flags=re.M)
     if not last or f"a report's verdict is above {last[1]} " not in readme:
         faults.append("README.md has another last verdict than the definitions")
     rows = dict(re.findall(r"^([^;\n]*);.* => (.*)$", text("tests/rows.txt"), flags=re.M))

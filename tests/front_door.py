@@ -2,7 +2,7 @@
 """Drives the built programs and the scripts `compare` and `compare_small`, and `examples/gates`, through their limits: every refusal with the
 border between two files, long and cut files, failed reads and writes, one write a line, every exit status, and what the scripts build and when.
 
-    rt check compare compare_small && python3 tests/front_door.py
+    tools/build compare compare_small && python3 tests/front_door.py
 
 It prints what differs and fails where anything does; its last line counts the checks.
 """
@@ -568,17 +568,17 @@ FAKE = """#!/bin/sh
 here=$(dirname "$0")
 if [ "$1" = version ]; then cat "$here/version"; exit 0; fi
 cat >/dev/null
-echo "$*" >>"$here/runs"
-echo 'rt: first_crate proved (1 s)'
+echo "$* $(basename "$PWD")" >>"$here/runs"
+echo 'fn first::of: proved'
 echo 'a line that nobody needs'
-echo 'rt: second_crate proved (unchanged since it was last proved)'
 mkdir "$here/at_work" || : >"$here/two"
 sleep "$(cat "$here/seconds")"
 rmdir "$here/at_work"
-if [ -e "$here/fail" ]; then echo 'rt: third_crate NOT PROVED (exit 1, 1 s)'; echo 'why it failed'; exit 1; fi
-mkdir -p target/bin
-cp "$here/$2" "target/bin/$2"
-echo 'rt: ok, 2 crates proved'
+if [ -e "$here/fail" ]; then echo 'fn third::of: not proved'; echo 'why it failed'; exit 1; fi
+self=$(basename "$PWD")
+mkdir -p out
+cp "$here/$self" "out/$self"
+echo 'refused 1'
 """
 
 
@@ -589,9 +589,12 @@ class Copy:
         self.root, self.tools = os.path.join(path, "the root"), os.path.join(path, "tools")
         os.makedirs(os.path.join(self.root, "crates", "a"))
         os.mkdir(self.tools)
+        os.mkdir(os.path.join(self.root, "tools"))
+        shutil.copy(os.path.join(ROOT, "tools", "built.sh"), os.path.join(self.root, "tools"))
         for door in DOORS:
             shutil.copy(door.script, self.root)
             shutil.copy(door.program, self.tools)
+            os.mkdir(os.path.join(self.root, "crates", door.name))
         self.put("crates.txt", "a:\n")
         self.put("crates/a/lib.rt", "// a\n")
         for name, text in (("version", "kit 1\n"), ("seconds", "0\n"), ("runs", ""), ("rt", FAKE)):
@@ -639,8 +642,8 @@ def built_when_needed(copy):
     check("build, no rt and nothing built", (status, out, err.count("\n")), (70, b"", 1))
     holds("build, no rt and nothing built, message", re.match("compare: .* rt, .* is not found", err), err)
     err = copy.compare("the first time", 1)
-    holds("build, progress", "some minutes\ncompare: first_crate proved (1 s)\n" in err, err)
-    holds("build, no noise", "nobody needs" not in err and "unchanged" not in err, err)
+    holds("build, progress", "some minutes\ncompare: first::of: proved\n" in err, err)
+    holds("build, no noise", "nobody needs" not in err and "refused" not in err, err)
     check("build, silent the second time", copy.compare("the second time", 1), "")
     check("build, no rt but built", copy.compare("no rt but built", 1, tool=False), "")
     copy.put("crates/a/lib.rt", "// b\n")
@@ -668,7 +671,7 @@ def built_when_needed(copy):
     copy.compare("a changed file behind a link", 10)
     os.remove(os.path.join(copy.root, "crates/b"))
     with open(os.path.join(copy.tools, "runs"), encoding="utf-8") as file:
-        check("build, what rt is asked for", set(file.read().splitlines()), {"check compare"})
+        check("build, what rt is asked for", set(file.read().splitlines()), {"run compare"})
     os.rename(os.path.join(copy.root, "crates.txt"), os.path.join(copy.root, "kept"))
     check("build, no list of crates", run(copy.words(), env=copy.env())[:2], (70, b""))
     os.rename(os.path.join(copy.root, "kept"), os.path.join(copy.root, "crates.txt"))
@@ -682,9 +685,9 @@ def progress_meanwhile(copy):
     os.remove(program)
     with subprocess.Popen(copy.words(), env=copy.env(), stdout=subprocess.PIPE, stderr=subprocess.PIPE) as child:
         line = b"none"
-        while line and b"first_crate" not in line:
+        while line and b"first::of" not in line:
             line = child.stderr.readline()
-        check("build, progress while it builds", (line, os.path.exists(program)), (b"compare: first_crate proved (1 s)\n", False))
+        check("build, progress while it builds", (line, os.path.exists(program)), (b"compare: first::of: proved\n", False))
         child.communicate(timeout=SECONDS)
     copy.put(os.path.join(copy.tools, "seconds"), "0\n")
     copy.put("crates/a/lib.rt", "// nobody reads\n")
@@ -707,7 +710,7 @@ def builds_that_fail(copy):
     copy.put("crates/a/lib.rt", "// c\n")
     for _ in range(2):
         status, out, err = run(copy.words(), env=copy.env())
-        check("build, a failed proof", (status, out, "compare: third_crate NOT PROVED" in err), (70, b"", True))
+        check("build, a failed proof", (status, out, "compare: third::of: not proved" in err), (70, b"", True))
         holds("build, a failed proof, the end of what rt said", "\nwhy it failed\n" in err, err)
     status, out, err = run(copy.words(), env=copy.env(tool=False))
     check("build, no rt after a failed proof", (status, out), (70, b""))
@@ -740,7 +743,7 @@ def under_either_name(copy):
     check("build, compare_small: no rt", (status, out, err.count("\n"), err.split()[0]), (70, b"", 1, "compare_small:"))
     before = copy.runs()
     err = copy.compare("compare_small: the first time", before + 1, door=SMALL)
-    holds("build, compare_small: progress", "some minutes\ncompare_small: first_crate proved (1 s)\n" in err, err)
+    holds("build, compare_small: progress", "some minutes\ncompare_small: first::of: proved\n" in err, err)
     for door in (SMALL, COMPARE):
         check(f"build, {door.name}: silent, nothing changed", copy.compare("nothing changed", before + 1, False, door), "")
     copy.put("crates/a/lib.rt", "// each\n")
@@ -918,7 +921,7 @@ def main():
     """Runs everything."""
     for door in DOORS:
         if not os.access(door.program, os.X_OK):
-            print(f"front_door: the program is not built; rt check {door.name} builds it")
+            print(f"front_door: the program is not built; tools/build {door.name} builds it")
             return 1
         status, _, err = run([door.script, "--", GATES, GATES])
         if status != 3:

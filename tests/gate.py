@@ -50,16 +50,24 @@ COUNT = "5 passed, 0 failed"
 PIPES = {"stdin": subprocess.DEVNULL, "stdout": subprocess.PIPE, "stderr": subprocess.DEVNULL}
 
 
-def run_gate(folder, ci, failing=None, jobs="2", processors="exit 9", slow=None, end="sys.exit(1)"):
-    """(status, lines) of the gate where rt ci and nproc are these pieces of shell, one test may fail and one be slow; each prints a line."""
+BUILT = ("compare", "compare_small", "record_calls", "pair_calls", "phase_sum_vectors")
+WELL = f"echo 'rt: ok; handles allowed: none; must-fail edits: 3 refused; all done'; echo '{COUNT}'"
+
+
+def run_gate(folder, ci, failing=None, built=BUILT, slow=None, end="sys.exit(1)"):
+    """(status, lines) of the gate where rt ci is this piece of shell and builds these programs, one test may fail and one be slow; each prints a
+    line."""
+    shutil.rmtree(os.path.join(folder, "target"), ignore_errors=True)
+    shutil.rmtree(os.path.join(folder, "crates"), ignore_errors=True)
+    for name in built:
+        put(folder, f"crates/{name}/out/{name}", name)
     for test in TESTS:
         name = test.split()[0]
         pause = "time.sleep(0.3)\n" if test == slow else ""
         last = end if test == failing else ""
         put(folder, f"tests/{name}", f"import os, sys, time\n{pause}print('ran', {name!r}, *sys.argv[1:], flush=True)\n{last}\n")
-    put(folder, "tools/rt", f'#!/bin/sh\n[ "$*" = ci ] || exit 9\n{ci}\n', 0o755)
-    put(folder, "tools/nproc", f"#!/bin/sh\n{processors}\n", 0o755)
-    env = dict(os.environ, PATH=os.path.join(folder, "tools") + ":" + os.environ["PATH"], RT_JOBS=jobs)
+    put(folder, "bin/rt", f'#!/bin/sh\n[ "$*" = version ] && exec echo kit\n[ "$*" = ci ] || exit 9\n{ci}\n', 0o755)
+    env = dict(os.environ, PATH=os.path.join(folder, "bin") + ":" + os.environ["PATH"])
     done = subprocess.run([os.path.join(folder, ".ci/run")], env=env, timeout=SECONDS, **PIPES)
     return done.returncode, done.stdout.decode().splitlines()
 
@@ -68,28 +76,40 @@ def try_gate(folder):
     """The count of no failures is the last line where everything passed, and nowhere else."""
     os.mkdir(os.path.join(folder, ".ci"))
     shutil.copy(os.path.join(ROOT, ".ci", "run"), os.path.join(folder, ".ci"))
-    got = run_gate(folder, f"echo one; echo two; echo '{COUNT}'")
-    trial("gate, all pass", got == (0, ["one", "two", *(f"ran {test}" for test in TESTS), COUNT]), got)
-    for jobs, processors, want in (("3", "echo 7", "3"), ("", "echo 7", "14"), ("", "exit 1", "2")):
-        _, lines = run_gate(folder, f"echo $RT_JOBS; echo '{COUNT}'", None, jobs, processors)
-        trial(f"gate, RT_JOBS '{jobs}' with {processors}", lines[:1] == [want], lines)
+    os.mkdir(os.path.join(folder, "tools"))
+    shutil.copy(os.path.join(ROOT, "tools", "built.sh"), os.path.join(folder, "tools"))
+    put(folder, "crates.txt", "compare:\n")
+    ok = "rt: ok; handles allowed: none; must-fail edits: 3 refused; all done"
+    got = run_gate(folder, f"echo one; echo two; {WELL}")
+    trial("gate, all pass", got == (0, ["one", "two", ok, *(f"ran {test}" for test in TESTS), COUNT]), got)
+    for name in BUILT:
+        with open(os.path.join(folder, "target", "bin", name), encoding="utf-8") as file:
+            trial(f"gate, the program {name} is taken over", file.read() == name)
+        with open(os.path.join(folder, "target", f"{name}.stamp"), encoding="utf-8") as file:
+            trial(f"gate, the stamp of {name}", [len(line) for line in file.read().splitlines()] == [64, 64, 3])
+    for name in BUILT:
+        status, lines = run_gate(folder, WELL, built=[other for other in BUILT if other != name])
+        trial(f"gate, {name} is not built", status == 1 and lines[-1] == f"gate: rt ci has left no program {name}", lines)
     for test in TESTS:
-        status, lines = run_gate(folder, f"echo '{COUNT}'", test)
+        status, lines = run_gate(folder, WELL, test)
         trial(f"gate, {test} fails", status == 1 and COUNT not in lines and f"gate: tests/{test.split()[0]} failed" == lines[-1], lines)
     for test in (TESTS[0], TESTS[-1]):
-        got = run_gate(folder, f"echo '{COUNT}'", slow=test)
-        trial(f"gate, {test} is slow", got == (0, [*(f"ran {test}" for test in TESTS), COUNT]), got)
+        got = run_gate(folder, WELL, slow=test)
+        trial(f"gate, {test} is slow", got == (0, [ok, *(f"ran {test}" for test in TESTS), COUNT]), got)
         for end in ("sys.exit(1)", "os.kill(os.getpid(), 9)"):
-            status, lines = run_gate(folder, f"echo '{COUNT}'", test, slow=test, end=end)
+            status, lines = run_gate(folder, WELL, test, slow=test, end=end)
             trial(f"gate, {test} is slow and ends by {end}", status == 1 and f"gate: tests/{test.split()[0]} failed" == lines[-1], lines)
     for label, ci, want in (
         ("rt ci fails", "echo '4 passed, 1 failed'; exit 3", 3),
-        ("rt ci fails, but counts none", f"echo '{COUNT}'; exit 3", 3),
+        ("rt ci fails, but counts none", f"{WELL}; exit 3", 3),
+        ("rt ci has a bad edit", f"echo 'rt: ok; must-fail edits: 3 refused, 1 bad; all done'; echo '{COUNT}'", 1),
+        ("rt ci has ten bad edits", f"echo 'rt: ok; must-fail edits: 3 refused, 1 of them only by a limit, 10 bad; all'; echo '{COUNT}'", 1),
+        ("rt ci does not say that it is well", f"echo '{COUNT}'", 1),
         ("rt ci ends well with a failure", "echo '4 passed, 1 failed'", 1),
         ("rt ci ends well with ten", "echo '4 passed, 10 failed'", 1),
         ("rt ci ends well with nothing", ":", 1),
-        ("rt ci ends well without a count", f"echo '{COUNT}'; echo more", 1),
-        ("rt ci is ended", f"echo '{COUNT}'; kill -9 $$", 137),
+        ("rt ci ends well without a count", f"{WELL}; echo more", 1),
+        ("rt ci is ended", f"{WELL}; kill -9 $$", 137),
     ):
         status, lines = run_gate(folder, ci)
         ran = [line for line in lines if line.startswith("ran ")]

@@ -2,6 +2,8 @@
 // seed: with 0 every number is 0, with 1 the lowest that there is, with 2 the highest, else they are of both signs and never 0.
 use calls_text::workspaces::Seen;
 use calls_text::{print, workspaces};
+use std::io;
+use std::io::Write;
 
 // The numbers that there are, and those that a comparison uses.
 pub(crate) const ALL: usize = 520;
@@ -60,7 +62,7 @@ fn seen(numbers: &[i64], seed: u64) -> Seen {
 }
 
 // All numbers afterwards: how many of those used are 0, and how many hold what they held.
-pub(crate) fn show(numbers: &[i64], seed: u64) {
-    print::text(b", numbers");
-    workspaces::show_seen(seen(numbers, seed));
+pub(crate) fn show(out: &mut impl Write, numbers: &[i64], seed: u64) -> io::Result<()> {
+    print::text(out, b", numbers")?;
+    workspaces::show_seen(out, seen(numbers, seed))
 }

@@ -3,6 +3,7 @@
 // letter, a qubit in hexadecimal and, for a gate on two qubits, the second; one space between two. The letters: x y z s t h, r and u for the
 // inverses of S and T, c for CX, k for CZ, w for SWAP.
 #![tactic(auto)]
+
 pub mod refusals;
 
 use calls_text::{Bytes, NO_DIGIT, byte, digit};
@@ -115,7 +116,7 @@ pub fn bytes_of(text: &[u8], buffer: &mut [u8]) -> Bytes {
 }
 
 // The lists of a pair, at the fronts of two buffers: how many bytes of each are lent, or of the first, which is given twice.
-#[derive(Drop)]
+#[derive(Clone, Copy)]
 pub enum Lists {
     Two { first: usize, second: usize },
     Twice(usize),
@@ -127,7 +128,7 @@ pub fn lists_of(first: &[u8], second: &[u8], a: &mut [u8], b: &mut [u8]) -> List
     let Bytes::Count(size) = bytes_of(first, a) else {
         return Lists::Bad;
     };
-    if check::same(second, b"=") {
+    if second == b"=".as_slice() {
         return Lists::Twice(size);
     }
     let Bytes::Count(other) = bytes_of(second, b) else {

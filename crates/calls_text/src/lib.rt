@@ -1,6 +1,7 @@
 // Rows of text: lines of the input, rows taken apart, what they print, and the workspaces that they lend: parts between separators, decimal numbers, bytes in
 // hexadecimal. Past its end a text holds spaces, so that no function asks anything of its caller.
 #![tactic(auto)]
+
 pub mod lines;
 pub mod print;
 pub mod workspaces;
@@ -163,7 +164,7 @@ pub fn are_below(text: &[u8], from: usize, to: usize, limit: usize) -> bool {
 }
 
 // Bytes that were read into a buffer: how many, or that the text is not of bytes.
-#[derive(Drop)]
+#[derive(Clone, Copy)]
 pub enum Bytes {
     Count(usize),
     Bad,

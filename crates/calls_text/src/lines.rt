@@ -1,14 +1,18 @@
 // Lines of the input, which comes in pieces: a line is put into a buffer, byte by byte, until its end has come. And what every row begins with.
 use crate::{byte, front, part, parts, plus, print, put};
-use libc::STDIN_FILENO;
+use std::io;
+use std::io::{Read, Write};
 use std::num::wrapping_add_usize;
 
 // The bytes that a row has at most.
 pub const MOST: usize = 8192;
 
+// The bytes of a piece.
+pub const PIECE: usize = 65536;
+
 // Where the input stands: the next byte of the present piece, and the piece's end; the bytes of the present line, which may be more than its
 // buffer holds; how many lines there were; whether the last search for one found it.
-#[derive(Drop)]
+#[derive(Clone, Copy)]
 pub struct Lines {
     pub at: usize,
     pub end: usize,
@@ -40,18 +44,18 @@ fn empty(lines: Lines) -> Lines {
 }
 
 // With a byte to read, where the input has one: in the present piece, or in the next.
-fn filled(lines: Lines, piece: &mut [u8]) -> Lines {
+fn filled(lines: Lines, input: &mut impl Read, piece: &mut [u8]) -> io::Result<Lines> {
     if lines.at < lines.end {
-        return lines;
+        return Ok(lines);
     }
-    let got = io::read_full(STDIN_FILENO, piece);
-    Lines {
+    let got = input.read(piece)?;
+    Ok(Lines {
         at: 0,
         end: got,
         size: lines.size,
         count: lines.count,
         more: got > 0,
-    }
+    })
 }
 
 // One byte of the line more.
@@ -89,23 +93,28 @@ fn last(lines: Lines) -> Lines {
 }
 
 // The next line, if there is one.
-pub fn next(before: Lines, piece: &mut [u8], line: &mut [u8]) -> Lines {
+pub fn next(
+    before: Lines,
+    input: &mut impl Read,
+    piece: &mut [u8],
+    line: &mut [u8],
+) -> io::Result<Lines> {
     let mut lines = empty(before);
     let mut turns = u64::MAX;
     while turns > 0 {
-        lines = filled(lines, piece);
+        lines = filled(lines, input, piece)?;
         if !lines.more {
-            return last(lines);
+            return Ok(last(lines));
         }
         let c = byte(piece, lines.at);
         if c == b'\n' {
-            return whole(lines);
+            return Ok(whole(lines));
         }
         put(line, lines.size, c);
         lines = longer(lines);
         turns -= 1;
     }
-    lines
+    Ok(lines)
 }
 
 // The smaller of two numbers.
@@ -114,11 +123,11 @@ fn least(a: usize, b: usize) -> usize {
 }
 
 // The row of so many bytes at the front of a buffer, its name printed; empty where the buffer does not hold it.
-pub fn begin(buffer: &[u8], size: usize) -> &[u8] {
+pub fn begin<'a>(out: &mut impl Write, buffer: &'a [u8], size: usize) -> io::Result<&'a [u8]> {
     let held = least(size, buffer.len());
-    print::text(part(front(buffer, held), b';', 0));
-    print::text(b": ");
-    front(buffer, size)
+    print::text(out, part(front(buffer, held), b';', 0))?;
+    print::text(out, b": ")?;
+    Ok(front(buffer, size))
 }
 
 // Has the row its five parts?
@@ -127,8 +136,8 @@ pub fn is_row(row: &[u8]) -> bool {
 }
 
 // The last line: how many rows there were.
-pub fn end(lines: Lines) {
-    print::text(b"rows");
-    print::number(lines.count);
-    print::text(b"\n");
+pub fn end(out: &mut impl Write, lines: Lines) -> io::Result<()> {
+    print::text(out, b"rows")?;
+    print::number(out, lines.count)?;
+    print::text(out, b"\n")
 }

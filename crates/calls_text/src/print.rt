@@ -1,15 +1,15 @@
-// What a row prints: text, numbers, bytes in hexadecimal.
-use libc::STDOUT_FILENO;
+// What a row prints, to a writer: text, numbers, bytes in hexadecimal.
+use std::io;
+use std::io::Write;
 
 // Text as it is.
-pub fn text(bytes: &[u8]) {
-    io::write_all(STDOUT_FILENO, bytes);
+pub fn text(out: &mut impl Write, bytes: &[u8]) -> io::Result<()> {
+    out.write_all(bytes)
 }
 
 // A space and a number.
-pub fn number(x: usize) {
-    text(b" ");
-    io::print_decimal(STDOUT_FILENO, x as u64);
+pub fn number(out: &mut impl Write, x: usize) -> io::Result<()> {
+    write!(out, " {x}")
 }
 
 // A byte as a number.
@@ -18,41 +18,43 @@ pub fn wide(x: u8) -> usize {
 }
 
 // A space and bytes in hexadecimal, `-` where there are none.
-pub fn bytes(s: &[u8]) {
-    text(b" ");
+pub fn bytes(out: &mut impl Write, s: &[u8]) -> io::Result<()> {
+    text(out, b" ")?;
     if s.len() == 0 {
-        text(b"-");
+        text(out, b"-")?;
     }
     let mut i = 0;
     while i < s.len() {
-        io::print_hex(STDOUT_FILENO, wide(s[i]) as u64, 2);
+        write!(out, "{:02x}", s[i])?;
         i += 1;
     }
+    Ok(())
 }
 
 // A refusal, by its number.
-pub fn refused(k: u8) {
-    text(b"refused");
-    number(wide(k));
+pub fn refused(out: &mut impl Write, k: u8) -> io::Result<()> {
+    text(out, b"refused")?;
+    number(out, wide(k))
 }
 
 // The two inputs of a result.
-pub fn inputs(first: u16, second: u16) {
-    number(first as usize);
-    number(second as usize);
+pub fn inputs(out: &mut impl Write, first: u16, second: u16) -> io::Result<()> {
+    number(out, first as usize)?;
+    number(out, second as usize)
 }
 
 // The two inputs and the five counts of a result.
-pub fn result(first: u16, second: u16, counts: [u8; 5]) {
-    inputs(first, second);
+pub fn result(out: &mut impl Write, first: u16, second: u16, counts: [u8; 5]) -> io::Result<()> {
+    inputs(out, first, second)?;
     let mut i = 0;
     while i < 5 {
-        number(wide(counts[i]));
+        number(out, wide(counts[i]))?;
         i += 1;
     }
+    Ok(())
 }
 
 // A row that cannot be read.
-pub fn bad() {
-    text(b"bad row");
+pub fn bad(out: &mut impl Write) -> io::Result<()> {
+    text(out, b"bad row")
 }

@@ -1,6 +1,8 @@
 // What the workspaces hold before a call and afterwards. Before, place after place holds the next number of a row that begins with the seed:
 // never 0, but for the seed 0, with which every place is 0.
 use crate::{plus, print};
+use std::io;
+use std::io::Write;
 
 // The words and the bytes that a comparison uses: the first of those that it is lent.
 const USED_WORDS: usize = 6400;
@@ -42,7 +44,7 @@ pub fn fill_bytes(bytes: &mut [u8], seed: u64) {
 }
 
 // How many of the places that a comparison uses are 0, and how many of all hold what they held before.
-#[derive(Drop)]
+#[derive(Clone, Copy)]
 pub struct Seen {
     pub zero: usize,
     pub kept: usize,
@@ -98,17 +100,17 @@ fn bytes_seen(bytes: &[u8], seed: u64) -> Seen {
 }
 
 // What was seen of a workspace.
-pub fn show_seen(seen: Seen) {
-    print::text(b" zero");
-    print::number(seen.zero);
-    print::text(b" kept");
-    print::number(seen.kept);
+pub fn show_seen(out: &mut impl Write, seen: Seen) -> io::Result<()> {
+    print::text(out, b" zero")?;
+    print::number(out, seen.zero)?;
+    print::text(out, b" kept")?;
+    print::number(out, seen.kept)
 }
 
 // Both workspaces afterwards.
-pub fn show(sets: &[u64], coeffs: &[u8], seed: u64) {
-    print::text(b", sets");
-    show_seen(words_seen(sets, seed));
-    print::text(b", coeffs");
-    show_seen(bytes_seen(coeffs, seed));
+pub fn show(out: &mut impl Write, sets: &[u64], coeffs: &[u8], seed: u64) -> io::Result<()> {
+    print::text(out, b", sets")?;
+    show_seen(out, words_seen(sets, seed))?;
+    print::text(out, b", coeffs")?;
+    show_seen(out, bytes_seen(coeffs, seed))
 }

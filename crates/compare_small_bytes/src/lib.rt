@@ -2,6 +2,7 @@
 // try" and "Where a call is turned down". No call has a `requires`; each returns the line's length, and the bytes behind the line stay as they
 // were.
 #![tactic(auto)]
+
 ghost use Rattle.line_bytes.specs.Line.{AtFront};
 ghost use Rattle.compare_small_bytes.specs.Lines.{pair_line, stream_line};
 

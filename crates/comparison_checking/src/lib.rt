@@ -1,6 +1,7 @@
 // The comparison layer, checking: the checks on a pair, in document 01's order ("Where a call is turned down"). The first list, the second, 8
 // and 9 are of the two records alone; 10, of the workspaces, stands by itself behind them.
 #![tactic(auto)]
+
 ghost use Rattle.std.specs.Prelude.{◌≡◌, ◌||◌, [], ltb};
 ghost use Rattle.record_format.specs.Reading.{read};
 ghost use Rattle.phase_sum_meaning.specs.Room.{places, set_words};

@@ -1,8 +1,9 @@
 // The comparison layer, judging: the verdict on where the reduction ended, with its two inputs and the counts. Document 01, "Reducing it".
 #![tactic(auto)]
+
 ghost use Rattle.std.specs.Prelude.{◌≡◌, ℕ, ◌≤◌, Bool, List, length};
 ghost use Rattle.phase_sum_types.specs.Workspace.{sets_at, places_in, parity_of, Lent, slices};
-ghost use Rattle.comparison_meaning.specs.Verdict.{blocked_input, result, searched, judge};
+ghost use Rattle.comparison_meaning.specs.Verdict.{blocked_input, result as verdict_result, searched, judge};
 ghost use Rattle.comparison_types.specs.Call.{verdict_of, result_of};
 ghost use Rattle.comparison_types.specs.Inner.{end_of, unblocked};
 
@@ -15,7 +16,7 @@ use phase_sum_types::{Found, Parity, Sum};
 // An input that makes a blocked parity 1: 0 if its constant is 1, else the input that holds only its lowest qubit.
 fn blocked_input(by: Parity, n: usize) -> u16
     requires { n ≤ 16 }
-    ensures* { λ r. ⌜ r ≡ blocked_input n (parity_of by) ⌝ }
+    ensures { result ≡ blocked_input n (parity_of by) }
 {
     if by.flipped {
         return 0;
@@ -28,7 +29,7 @@ fn blocked_input(by: Parity, n: usize) -> u16
 
 // The verdict and the inputs, with the counts and the variables left.
 fn outcome(sum: Sum, counts: Counts, verdict: Verdict, first: u16, second: u16) -> Outcome
-    ensures* { λ r. ⌜ ((l : Lent) (by : Parity) → result_of r ≡ result (verdict_of verdict) first second (end_of (unblocked by sum counts) l)) ⌝ }
+    ensures { (l : Lent) (by : Parity) → result_of result ≡ verdict_result (verdict_of verdict) first second (end_of (unblocked by sum counts) l) }
 {
     Outcome {
         verdict,
@@ -46,7 +47,7 @@ fn outcome(sum: Sum, counts: Counts, verdict: Verdict, first: u16, second: u16) 
 // power of ω that carries the first list to the second.
 fn searched(sum: Sum, counts: Counts, n: usize, sets: &[u64], coeffs: &[u8]) -> Outcome
     requires { (n ≤ 16) × (sum.phase.count ≤ places_in sets.now) × (sum.phase.count ≤ length coeffs.now) }
-    ensures* { λ r. ⌜ ((ws : List ℕ) (fs : List Bool) (by : Parity) → result_of r ≡ searched 0 n (end_of (unblocked by sum counts) (slices ws fs (sets_at sets.now) coeffs.now))) ⌝ }
+    ensures { (ws : List ℕ) (fs : List Bool) (by : Parity) → result_of result ≡ searched 0 n (end_of (unblocked by sum counts) (slices ws fs (sets_at sets.now) coeffs.now)) }
 {
     let phase = sum.phase;
     if counts.pins != counts.sums {
@@ -64,7 +65,7 @@ fn searched(sum: Sum, counts: Counts, n: usize, sets: &[u64], coeffs: &[u8]) -> 
 // The verdict on n qubits.
 pub fn judge(end: End, n: usize, sets: &[u64], coeffs: &[u8]) -> Outcome
     requires { (n ≤ 16) × (end.sum.phase.count ≤ places_in sets.now) × (end.sum.phase.count ≤ length coeffs.now) }
-    ensures* { λ r. ⌜ ((ws : List ℕ) (fs : List Bool) → result_of r ≡ judge 0 n (end_of end (slices ws fs (sets_at sets.now) coeffs.now))) ⌝ }
+    ensures { (ws : List ℕ) (fs : List Bool) → result_of result ≡ judge 0 n (end_of end (slices ws fs (sets_at sets.now) coeffs.now)) }
 {
     let sum = end.sum;
     let counts = end.counts;

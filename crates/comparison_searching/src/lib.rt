@@ -1,6 +1,7 @@
 // The comparison layer, searching: the inputs of weight 1, 2 and 3, lower numbers first, for one whose phase differs from that of input 0.
 // Document 01, "Reducing it". An answer of 0 is none: input 0 does not differ from itself.
 #![tactic(auto)]
+
 ghost use Rattle.std.specs.Prelude.{◌≡◌, ◌%◌, ◌<◌, ◌≤◌, not, length, eqb};
 ghost use Rattle.phase_sum_meaning.specs.Sets.{single};
 ghost use Rattle.phase_sum_meaning.specs.Phase.{phase_at};

@@ -1,6 +1,7 @@
 // The line that the program of the dense comparison prints: the verdict's word and its two inputs, or `refused` and the number, as bytes at
 // the front of a lent buffer. write_answer has no `requires`.
 #![tactic(auto)]
+
 ghost use Rattle.dense_types.specs.Call.{found_of, said_of, says};
 ghost use Rattle.line_bytes.specs.Line.{AtFront};
 ghost use Rattle.dense_line.specs.Line.{line_of};

@@ -2,6 +2,7 @@
 // qubits; in space it stands beside it, on qubits numbered after the first's. Every call takes any bytes, refuses by number what is bad, and
 // then changes no byte that it was lent. All that is public here is a call, an answer or its number.
 #![tactic(auto)]
+
 ghost use Rattle.std.specs.Prelude.{◌≡◌};
 ghost use Rattle.joining_types.specs.Call.{joined_answer, join_in_time, join_in_space};
 ghost use Rattle.joining_types.specs.Clauses.{InTime, InSpace, WhereWritten};

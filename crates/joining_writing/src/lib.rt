@@ -1,5 +1,6 @@
 // Two accepted lists written as one record, the second list's qubits numbered further on. Inner: licensees use `joining`.
 #![tactic(auto)]
+
 ghost use Rattle.std.specs.Prelude.{◌≡◌, ◌+◌, ◌%◌, ◌≤◌, ◌++◌, length, take, drop};
 ghost use Rattle.record_format.specs.Format.{gate_size, most_qubits};
 ghost use Rattle.record_format.specs.Gate.{Within, AllWithin, gate_of, raw};

@@ -1,5 +1,6 @@
 // Lines as bytes: a word, numbers with a space before each, a newline, at the front of a lent buffer. The line of a refusal has no `requires`.
 #![tactic(auto)]
+
 ghost use Rattle.std.specs.Prelude.{◌≡◌, ◌+◌, ◌*◌, ◌≤◌, ◌<◌, [], ◌∷◌, length};
 ghost use Rattle.line_bytes.specs.Line.{digit as Line·digit, decimal, field, fields, refused_line, line_with, AtFront};
 ghost use Rattle.line_bytes.specs.Inner.{Wrote};

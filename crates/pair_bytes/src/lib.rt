@@ -1,6 +1,7 @@
 // The bytes of a pair that a program gets: which are a record's own, whether others follow, and the place of their number, 12, among the
 // others: document 01, "Where a call is turned down".
 #![tactic(auto)]
+
 ghost use Rattle.std.specs.Prelude.{◌≡◌};
 ghost use Rattle.comparison_types.specs.Call.{fault_of};
 ghost use Rattle.pair_bytes.specs.Pair.{own_size, follow, first_of, second_of};

@@ -8,4 +8,4 @@ use Rattle.pair_input.specs.declared.reading.Turn.TheVariants.{Bytes, Ended, Fai
 abbrev pub InBuffer : Turn → List ℕ → Type 0
 InBuffer (Bytes k) buffer = k ≤ length buffer
 InBuffer Ended buffer = Unit
-InBuffer Failed buffer = Unit
+InBuffer (Failed _) buffer = Unit

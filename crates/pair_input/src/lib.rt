@@ -2,11 +2,13 @@
 // input, the second directly after the first. Where an input cannot be read or the line cannot be written, a message on standard error says
 // why, after the program's own name.
 #![tactic(auto)]
+
 mod reading;
 
-use libc::{STDERR_FILENO, STDOUT_FILENO};
 use reading::fail;
 pub use reading::{INPUT_SIZE, Input, STREAM_SIZE, read_argument, read_stream};
+use std::env::FillError;
+use std::rt::Env;
 
 // Where a program's two records are, by its arguments.
 #[derive(Drop)]
@@ -20,28 +22,30 @@ pub enum Source {
 }
 
 // A message that says how the program is called.
-fn tell_usage(program: &[u8]) {
-    io::write_all(STDERR_FILENO, b"usage: ");
-    io::write_all(STDERR_FILENO, program);
-    io::write_all(STDERR_FILENO, b" [FIRST SECOND]\n");
+fn tell_usage(rt: &impl Eprint, program: &str) {
+    let _ = eprintln!(rt; "usage: {program} [FIRST SECOND]");
+}
+
+// Is there an argument at a place? The program's own name is at 0.
+fn has_argument(rt: &impl Env, place: usize) -> bool {
+    !matches!(rt.arg(place, &mut []), Err(FillError::NotPresent))
 }
 
 // Where the two records of a program with this name are; a message where they are nowhere.
-pub fn find_source(program: &[u8]) -> Source {
-    let arguments = os::arg_count();
-    if arguments <= 1 {
+pub fn find_source<R: Env + Eprint>(rt: &R, program: &str) -> Source {
+    if !has_argument(rt, 1) {
         return Source::Stream;
     }
-    if arguments == 3 {
+    if has_argument(rt, 2) && !has_argument(rt, 3) {
         return Source::Files;
     }
-    tell_usage(program);
+    tell_usage(rt, program);
     Source::Nowhere
 }
 
 // A whole line on standard output in one write, or a message.
-pub fn print(program: &[u8], line: &[u8]) {
-    if !io::write_all(STDOUT_FILENO, line) {
-        fail(program, b"standard output");
+pub fn print<R: Print + Eprint + Alloc>(rt: &R, program: &str, line: &[u8]) {
+    if let Err(why) = rt.write_all(line) {
+        fail(rt, program, "standard output", why);
     }
 }

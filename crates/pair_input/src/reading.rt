@@ -1,10 +1,12 @@
 // Reading a file or standard input: the bytes up to its end or as far as a buffer goes, told apart from a read that failed.
-ghost use Rattle.io.specs.Counts.{IsPrefixLen};
 ghost use Rattle.pair_bytes.specs.Limits.{input_size, stream_size};
 ghost use Rattle.pair_input.specs.Turn.{InBuffer};
-ghost use Rattle.pair_input.specs.Limit.{UpTo};
+ghost use Rattle.pair_input.specs.Limit.{IsPrefixLen, UpTo};
 
-use libc::{EINTR, STDERR_FILENO, STDIN_FILENO};
+use std::env::FillError;
+use std::io::{Error, ErrorKind, Read};
+use std::rt::{Env, Files};
+use std::{fs, io, str};
 
 // The bytes of a file that are read: those of the longest record, 1,541, and one more, which tells that others follow. That a line needs no
 // more is proved of pair_bytes' `input_size` (`far_enough` in its proofs/Laws.antt).
@@ -27,44 +29,58 @@ enum Turn {
     Bytes(usize),
     // the input has ended, or the buffer is full
     Ended,
-    Failed,
+    Failed(Error),
 }
 
-// The bytes of a name that is taken; a path that the system takes is shorter.
+// The bytes of a name that is taken; a path that the system takes is shorter. std takes paths that are UTF-8.
 const NAME_SIZE: usize = 4096;
 
 // Reads of one input; each that is not interrupted gets a byte or is the last, and buffers are far shorter.
 const MOST_TURNS: u32 = 1000000;
 
+// Numbers of errors, as Linux has them: a signal came first, there is no such argument, a name is too long.
+const INTERRUPTED: i32 = 4;
+
+const NO_ARGUMENT: i32 = 22;
+
+const NAME_TOO_LONG: i32 = 36;
+
+// What stands between the words for an error and its number.
+const BEFORE_NUMBER: &str = " (os error ";
+
 // One read behind the first `done` bytes.
-fn read_some(fd: i32, buffer: &mut [u8], done: usize) -> Turn
+fn read_some<I: Read>(from: &mut I, buffer: &mut [u8], done: usize) -> Turn
     ensures { InBuffer result buffer.new }
 {
     if done >= buffer.len() {
         return Turn::Ended;
     }
-    let got = libc::read(fd, &mut buffer[done..]);
-    if got < 0 {
-        if os::errno() == EINTR {
-            return Turn::Bytes(done);
+    match from.read(&mut buffer[done..]) {
+        Ok(0) => Turn::Ended,
+        Ok(count) => Turn::Bytes(done + count),
+        Err(why) => {
+            if why.kind() == ErrorKind::Interrupted {
+                return Turn::Bytes(done);
+            }
+            Turn::Failed(why)
         }
-        return Turn::Failed;
     }
-    let count = io::count(got, &buffer[done..]);
-    if count == 0 {
-        return Turn::Ended;
-    }
-    Turn::Bytes(done + count)
 }
 
-// Reads until the input ends, the buffer is full or a read fails; a read that a signal interrupts is done again.
-pub fn read_all(fd: i32, buffer: &mut [u8]) -> Input
+// Reads until the input ends, the buffer is full or a read fails; a read that a signal interrupts is done again. A message says what failed.
+pub fn read_all<R: Eprint + Alloc, I: Read>(
+    rt: &R,
+    program: &str,
+    what: &str,
+    from: &mut I,
+    buffer: &mut [u8],
+) -> Input
     ensures { IsPrefixLen result.size buffer.new }
 {
     let mut done = 0;
     let mut turns = MOST_TURNS;
     while turns > 0 {
-        match read_some(fd, buffer, done) {
+        match read_some(from, buffer, done) {
             Turn::Bytes(total) => {
                 done = total;
             }
@@ -74,7 +90,8 @@ pub fn read_all(fd: i32, buffer: &mut [u8]) -> Input
                     size: done,
                 };
             }
-            Turn::Failed => {
+            Turn::Failed(why) => {
+                fail(rt, program, what, why);
                 return Input {
                     failed: true,
                     size: 0,
@@ -83,69 +100,89 @@ pub fn read_all(fd: i32, buffer: &mut [u8]) -> Input
         }
         turns -= 1;
     }
+    fail(rt, program, what, Error::from_raw_os_error(INTERRUPTED));
     Input {
         failed: true,
         size: 0,
     }
 }
 
-// A message on standard error: the program, what failed and why.
-pub fn fail(program: &[u8], what: &[u8]) {
-    io::write_all(STDERR_FILENO, program);
-    io::write_all(STDERR_FILENO, b": ");
-    os::fail(what);
+// A message on standard error: the program, what failed and why, without the error's number.
+pub fn fail<R: Eprint + Alloc>(rt: &R, program: &str, what: &str, why: Error) {
+    let _ = match why.to_string(rt.alloc()) {
+        Ok(text) => {
+            let words = text.split(BEFORE_NUMBER).next().unwrap_or("");
+            eprintln!(rt; "{program}: {what}: {words}")
+        }
+        Err(_) => eprintln!(rt; "{program}: {what}: {why}"),
+    };
 }
 
 // The bytes of the file of a name; a message where it cannot be opened or read.
-fn read_file(program: &[u8], name: &[u8], buffer: &mut [u8]) -> Input
+fn read_file<R: Files + Eprint + Alloc>(
+    rt: &R,
+    program: &str,
+    name: &str,
+    buffer: &mut [u8],
+) -> Input
     ensures { IsPrefixLen result.size buffer.new }
 {
-    let fd = os::open_read(name);
-    if fd < 0 {
-        fail(program, name);
-        return Input {
-            failed: true,
-            size: 0,
-        };
+    match fs::open(rt, name) {
+        Ok(mut file) => read_all(rt, program, name, &mut file, buffer),
+        Err(why) => {
+            fail(rt, program, name, why);
+            Input {
+                failed: true,
+                size: 0,
+            }
+        }
     }
-    let input = read_all(fd, buffer);
-    if input.failed {
-        fail(program, name);
-    }
-    libc::close(fd);
-    input
 }
 
 // The bytes of the file that an argument names; a message where that fails.
-fn read_named(program: &[u8], place: usize, buffer: &mut [u8]) -> Input
+fn read_named<R: Env + Files + Eprint + Alloc>(
+    rt: &R,
+    program: &str,
+    place: usize,
+    buffer: &mut [u8],
+) -> Input
     ensures { IsPrefixLen result.size buffer.new }
 {
     let mut name = [0u8; NAME_SIZE];
-    let size = os::arg(place, &mut name);
-    if os::errno() != 0 {
-        fail(program, b"a file's name");
-        return Input {
-            failed: true,
-            size: 0,
-        };
+    let why = match rt.arg(place, &mut name) {
+        Ok(size) => match str::from_utf8(&name[..size]) {
+            Ok(text) => return read_file(rt, program, text, buffer),
+            Err(_) => Error::new(ErrorKind::InvalidFilename, "it is not UTF-8"),
+        },
+        Err(FillError::TooLong) => Error::from_raw_os_error(NAME_TOO_LONG),
+        Err(FillError::NotPresent) => Error::from_raw_os_error(NO_ARGUMENT),
+    };
+    fail(rt, program, "a file's name", why);
+    Input {
+        failed: true,
+        size: 0,
     }
-    read_file(program, &name[..size], buffer)
 }
 
 // The same, as far as it matters.
-pub fn read_argument(program: &[u8], place: usize, buffer: &mut [u8; INPUT_SIZE]) -> Input
+pub fn read_argument<R: Env + Files + Eprint + Alloc>(
+    rt: &R,
+    program: &str,
+    place: usize,
+    buffer: &mut [u8; INPUT_SIZE],
+) -> Input
     ensures { UpTo input_size result.size buffer.new }
 {
-    read_named(program, place, buffer)
+    read_named(rt, program, place, buffer)
 }
 
 // Standard input, as far as it matters; a message where that fails.
-pub fn read_stream(program: &[u8], stream: &mut [u8; STREAM_SIZE]) -> Input
+pub fn read_stream<R: io::Input + Eprint + Alloc>(
+    rt: &R,
+    program: &str,
+    stream: &mut [u8; STREAM_SIZE],
+) -> Input
     ensures { UpTo stream_size result.size stream.new }
 {
-    let input = read_all(STDIN_FILENO, stream);
-    if input.failed {
-        fail(program, b"standard input");
-    }
-    input
+    read_all(rt, program, "standard input", &mut rt.reader(), stream)
 }

@@ -1,6 +1,7 @@
 // The phase-sum layer, moving: the gates that only move wires, which are X, CX and SWAP. Document 01, "Building the sum".
 // The wires are two lent slices, sets and constant bits, one place a qubit, changed in place.
 #![tactic(auto)]
+
 ghost use Rattle.std.specs.Prelude.{◌≡◌, ℕ, ◌<◌, true, length};
 ghost use Rattle.record_format.specs.Gate.{Within, gate_of, raw, one, two, X, CX, CZ, SWAP};
 ghost use Rattle.phase_sum_meaning.specs.Parity.{◌⊕◌};

@@ -1,6 +1,7 @@
 // The phase-sum layer, passing: one pass over the terms or the wires in lent slices that changes each, unmerged. A variable is replaced by a
 // parity, or taken out. Document 01, "Reducing it".
 #![tactic(auto)]
+
 ghost use Rattle.std.specs.Prelude.{◌≡◌, ◌+◌, ◌%◌, ◌<◌, ◌≤◌, cond, map, ◌++◌, length, get_or, set, take, drop};
 ghost use Rattle.phase_sum_meaning.specs.Parity.{of, replace_in};
 ghost use Rattle.phase_sum_meaning.specs.Phase.{minus, rebuild};

@@ -1,6 +1,7 @@
 // The phase-sum layer, reading: what a step goes by, namely which variables are in terms of odd coefficient, and the C and L of a variable;
 // and what the search goes by at three qubits, namely the terms of odd coefficient that hold two. Document 01, "Reducing it".
 #![tactic(auto)]
+
 ghost use Rattle.std.specs.Prelude.{◌≡◌, ◌+◌, ◌/◌, ◌%◌, ◌<◌, ◌≤◌, cond, ◌&&◌, length, get_or, eqb};
 ghost use Rattle.amplitude.specs.Bits.{bit};
 ghost use Rattle.phase_sum_meaning.specs.Stepping.{out_of, half_sum, odd_halves};

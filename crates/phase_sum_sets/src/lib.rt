@@ -2,6 +2,7 @@
 // knows only these functions, but for the sort, which orders by one word after the other. What a set stands for is `set_of` of phase_sum_types,
 // and what a slice of words holds is `sets_at`.
 #![tactic(auto)]
+
 ghost use Rattle.std.specs.Prelude.{◌≡◌, ℕ, ◌%◌, ◌^◌, ◌<◌, not, ◌&&◌, ◌||◌, length, get_or, set, eqb, leb};
 ghost use Rattle.amplitude.specs.Bits.{bit};
 ghost use Rattle.phase_sum_meaning.specs.Sets.{◌△◌, single, parity, first_in, first_such, from};

@@ -1,17 +1,22 @@
 // Runs the phase-sum layer on rows from standard input and prints what each gives. tests/phase_sum_rows.py writes the rows and,
 // by an independent computation, what must be printed.
 #![tactic(auto)]
+
 mod operations;
 mod pair;
 mod print;
 mod row;
 mod steps;
 
-use libc::STDIN_FILENO;
 use phase_sum_types::Phase;
+use std::io;
+use std::io::{BufWriter, Read, Write};
+
+// The bytes of the input that are read at most.
+const MOST: u64 = 65536;
 
 // One row after another, until the input ends.
-fn run(input: &[u8], sets: &mut [u64], coeffs: &mut [u8]) {
+fn run(out: &mut impl Write, input: &[u8], sets: &mut [u64], coeffs: &mut [u8]) -> io::Result<()> {
     let mut state = steps::State {
         wires: steps::Wires {
             sets: [0; steps::WIRE_WORDS],
@@ -27,18 +32,21 @@ fn run(input: &[u8], sets: &mut [u64], coeffs: &mut [u8]) {
         let rest = &input[at..];
         let r = row::read(rest);
         let size = r.size;
-        state = steps::step(state, r, rest, sets, coeffs);
+        state = steps::step(out, state, r, rest, sets, coeffs)?;
         if size > input.len() - at {
-            return;
+            return Ok(());
         }
         at += size;
     }
+    Ok(())
 }
 
-fn main() {
-    let mut buffer = io::large_buffer();
-    let got = io::read_full(STDIN_FILENO, &mut buffer);
+fn main(rt: HostRuntime) -> io::Result<()> {
+    let mut buffer = Vec::new(rt.alloc());
+    rt.stdin().take(MOST).read_to_end(&mut buffer)?;
+    let mut out = BufWriter::new(rt.alloc(), io::writer(&rt))?;
     let mut sets = [0u64; pair::SET_WORDS];
     let mut coeffs = [0u8; pair::PLACES];
-    run(&buffer[..got], &mut sets, &mut coeffs);
+    run(&mut out, &buffer, &mut sets, &mut coeffs)?;
+    out.flush()
 }

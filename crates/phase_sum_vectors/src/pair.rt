@@ -12,6 +12,8 @@ use phase_sum_sets::count;
 use phase_sum_types::{Sum, WORDS_EACH};
 use record_format::{Checked, HEAD_SIZE};
 use record_reading::{check, gates};
+use std::io;
+use std::io::Write;
 
 // The coefficients that building asks for, and the words of as many sets.
 pub(crate) const PLACES: usize = 3200;
@@ -50,39 +52,50 @@ fn few_variables(n: usize, first: &[u8], second: &[u8]) -> bool
 }
 
 // A sum on n qubits: the next variable, the constant and the terms on a line, and the wires.
-fn show(n: usize, sum: Sum, wires: Wires, sets: &[u64], coeffs: &[u8]) {
+fn show(
+    out: &mut impl Write,
+    n: usize,
+    sum: Sum,
+    wires: Wires,
+    sets: &[u64],
+    coeffs: &[u8],
+) -> io::Result<()> {
     let phase = sum.phase;
-    print::number(std::num::wrapping_add_u64(n as u64, count(sum.live) as u64));
-    print::number(print::wide(phase.constant));
-    print::terms(sets, coeffs, phase.count);
-    print::end();
-    print::wires(wires);
+    print::number(
+        out,
+        std::num::wrapping_add_u64(n as u64, count(sum.live) as u64),
+    )?;
+    print::number(out, print::wide(phase.constant))?;
+    print::terms(out, sets, coeffs, phase.count)?;
+    print::end(out)?;
+    print::wires(out, wires)
 }
 
 // The sum of two accepted records on n qubits.
 fn sum_of(
+    out: &mut impl Write,
     state: State,
     n: usize,
     first: &[u8],
     second: &[u8],
     sets: &mut [u64],
     coeffs: &mut [u8],
-) -> State
+) -> io::Result<State>
     requires { ((gs : List Gate) × (read first.now ≡ accepted n gs)) × ((gs : List Gate) × (read second.now ≡ accepted n gs)) }
 {
     if n > QUBITS {
-        return state;
+        return Ok(state);
     }
     if sets.len() != SET_WORDS {
-        return state;
+        return Ok(state);
     }
     if coeffs.len() != PLACES {
-        return state;
+        return Ok(state);
     }
     let one = gates(first);
     let two = gates(second);
     if !few_variables(n, one, two) {
-        return state;
+        return Ok(state);
     }
     let mut ws = [0u64; WIRE_WORDS];
     let mut fs = [false; QUBITS];
@@ -92,28 +105,34 @@ fn sum_of(
         sets: ws,
         flips: fs,
     };
-    show(n, sum, wires, sets, coeffs);
+    show(out, n, sum, wires, sets, coeffs)?;
     let phase = sum.phase;
-    State { wires, phase }
+    Ok(State { wires, phase })
 }
 
 // The sum of the two records behind the row's head.
-pub(crate) fn build(state: State, body: &[u8], sets: &mut [u64], coeffs: &mut [u8]) -> State {
+pub(crate) fn build(
+    out: &mut impl Write,
+    state: State,
+    body: &[u8],
+    sets: &mut [u64],
+    coeffs: &mut [u8],
+) -> io::Result<State> {
     if body.len() < row::HEAD {
-        return state;
+        return Ok(state);
     }
     let first = &body[row::HEAD..];
     let n = qubits(first);
     if n == 0 {
-        return state;
+        return Ok(state);
     }
     let size = HEAD_SIZE + gates(first).len();
     if first.len() < size {
-        return state;
+        return Ok(state);
     }
     let second = &first[size..];
     if qubits(second) != n {
-        return state;
+        return Ok(state);
     }
-    sum_of(state, n, first, second, sets, coeffs)
+    sum_of(out, state, n, first, second, sets, coeffs)
 }

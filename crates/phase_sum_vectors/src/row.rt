@@ -42,7 +42,7 @@ pub(crate) const ONE_SET: u8 = 12;
 
 pub(crate) const TWO_SETS: u8 = 13;
 
-#[derive(Drop)]
+#[derive(Clone, Copy)]
 pub struct Row {
     pub function: u8,
     pub variable: u8,

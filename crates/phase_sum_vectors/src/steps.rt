@@ -8,19 +8,21 @@ use crate::{operations, pair, print, row};
 use phase_sum_sets::{empty, parity, store};
 use phase_sum_terms::terms;
 use phase_sum_types::{Parity, Phase, Set, Sum, WORDS_EACH};
+use std::io;
+use std::io::Write;
 
 // The qubits that the wires have places for, and the words of their sets.
 pub(crate) const QUBITS: usize = 16;
 
 pub(crate) const WIRE_WORDS: usize = WORDS_EACH * QUBITS;
 
-#[derive(Drop)]
+#[derive(Clone, Copy)]
 pub struct Wires {
     pub sets: [u64; WIRE_WORDS],
     pub flips: [bool; QUBITS],
 }
 
-#[derive(Drop)]
+#[derive(Clone, Copy)]
 pub struct State {
     pub wires: Wires,
     pub phase: Phase,
@@ -201,61 +203,64 @@ fn first_set(sets: &[u64], count: usize) -> Set {
 }
 
 // What a row asks for.
-fn ask(phase: Phase, r: Row, sets: &[u64], coeffs: &[u8]) {
+fn ask(out: &mut impl Write, phase: Phase, r: Row, sets: &[u64], coeffs: &[u8]) -> io::Result<()> {
     let count = phase.count;
     if count > sets.len() / WORDS_EACH {
-        return;
+        return Ok(());
     }
     if count > coeffs.len() {
-        return;
+        return Ok(());
     }
     let function = r.function;
     let v = (r.variable % 128) as u32;
     match function {
-        row::ODD_MASK => print::set(phase_sum_reading::odd_mask(sets, coeffs, count)),
+        row::ODD_MASK => print::set(out, phase_sum_reading::odd_mask(sets, coeffs, count)),
         row::HALVES => {
             let h = phase_sum_reading::halves_of(sets, coeffs, count, v);
-            print::number(print::wide(h.c));
-            print::set(h.l);
+            print::number(out, print::wide(h.c))?;
+            print::set(out, h.l)
         }
-        row::PHASE_AT => print::number(print::wide(terms::phase_at(
-            sets, coeffs, phase, r.set.low,
-        ))),
-        row::PARITY => print::bit(parity(r.set, 1u64 << (r.variable % 64))),
+        row::PHASE_AT => {
+            let at = terms::phase_at(sets, coeffs, phase, r.set.low);
+            print::number(out, print::wide(at))
+        }
+        row::PARITY => print::bit(out, parity(r.set, 1u64 << (r.variable % 64))),
         row::ODD_BOTH => {
             let mask = phase_sum_reading::odd_mask(sets, coeffs, count);
             let w = (r.constant % 128) as u32;
-            print::set(phase_sum_reading::odd_both_in(mask, sets, coeffs, count, v, w));
+            let both = phase_sum_reading::odd_both_in(mask, sets, coeffs, count, v, w);
+            print::set(out, both)
         }
-        row::ONE_SET => operations::of_one(r),
-        row::TWO_SETS => operations::of_two(r.set, first_set(sets, count)),
-        _ => {}
+        row::ONE_SET => operations::of_one(out, r),
+        row::TWO_SETS => operations::of_two(out, r.set, first_set(sets, count)),
+        _ => Ok(()),
     }
 }
 
 // One row, and the line for it: what it asks for, the constant, the terms and the wires afterwards.
 pub(crate) fn step(
+    out: &mut impl Write,
     state: State,
     r: Row,
     body: &[u8],
     sets: &mut [u64],
     coeffs: &mut [u8],
-) -> State {
+) -> io::Result<State> {
     let function = r.function;
     if function == row::BUILD {
-        return pair::build(state, body, sets, coeffs);
+        return pair::build(out, state, body, sets, coeffs);
     }
     let new = changed(state, r, body, sets, coeffs);
     if r.quiet {
-        return new;
+        return Ok(new);
     }
     let phase = new.phase;
-    ask(phase, r, sets, coeffs);
-    print::number(print::wide(phase.constant));
-    print::terms(sets, coeffs, phase.count);
-    print::end();
-    print::wires(new.wires);
-    new
+    ask(out, phase, r, sets, coeffs)?;
+    print::number(out, print::wide(phase.constant))?;
+    print::terms(out, sets, coeffs, phase.count)?;
+    print::end(out)?;
+    print::wires(out, new.wires)?;
+    Ok(new)
 }
 
 // The terms and wires after a row.

@@ -5,42 +5,49 @@
 // hexadecimal, or a list of gates on n qubits, as `2:h0 t1 c01` (calls_lists). What is printed: the name, what the call answered, and what
 // the lent buffer holds afterwards. A row that cannot be read prints `bad row`.
 #![tactic(auto)]
+
 mod calls;
 mod names;
 mod readers;
 mod writers;
 
 use calls_text::{lines, part, print};
+use std::io;
+use std::io::{BufWriter, Write};
 
 // One row: its name, and then what the call gives.
-fn row(buffer: &[u8], size: usize) {
-    let row = lines::begin(buffer, size);
+fn row(out: &mut impl Write, buffer: &[u8], size: usize) -> io::Result<()> {
+    let row = lines::begin(out, buffer, size)?;
     if lines::is_row(row) {
         calls::run(
+            out,
             part(row, b';', 1),
             part(row, b';', 2),
             part(row, b';', 3),
             part(row, b';', 4),
-        );
+        )?;
     } else {
-        print::bad();
+        print::bad(out)?;
     }
-    print::text(b"\n");
+    print::text(out, b"\n")
 }
 
 // Rows until the input ends. Nothing says that it does, so the turns are counted down, from a number that no run uses up.
-fn main() {
-    let mut piece = io::large_buffer();
+fn main(rt: HostRuntime) -> io::Result<()> {
+    let mut input = rt.stdin();
+    let mut out = BufWriter::new(rt.alloc(), io::writer(&rt))?;
+    let mut piece = [0u8; lines::PIECE];
     let mut line = [0u8; lines::MOST];
     let mut lines = lines::none();
     let mut turns = u64::MAX;
     while turns > 0 {
-        lines = lines::next(lines, &mut piece, &mut line);
+        lines = lines::next(lines, &mut input, &mut piece, &mut line)?;
         if !lines.more {
             break;
         }
-        row(&line, lines.size);
+        row(&mut out, &line, lines.size)?;
         turns -= 1;
     }
-    lines::end(lines);
+    lines::end(&mut out, lines)?;
+    out.flush()
 }

@@ -1,5 +1,4 @@
 // The record layer's calls, by their names in a row. One more is a number and a name here, and a function beside those that read or write.
-use check::same;
 
 // Calls that read one lent slice, or numbers alone.
 pub(crate) const CHECK: u8 = 0;
@@ -26,36 +25,24 @@ pub(crate) const UNKNOWN: u8 = 255;
 
 // The call of a name that reads.
 fn reader_of(name: &[u8]) -> u8 {
-    if same(name, b"check") {
-        return CHECK;
+    match name {
+        b"check" => CHECK,
+        b"gates" => GATES,
+        b"read_report" => READ_REPORT,
+        b"check_gate" => CHECK_GATE,
+        _ => UNKNOWN,
     }
-    if same(name, b"gates") {
-        return GATES;
-    }
-    if same(name, b"read_report") {
-        return READ_REPORT;
-    }
-    if same(name, b"check_gate") {
-        return CHECK_GATE;
-    }
-    UNKNOWN
 }
 
 // The call of a name.
 pub(crate) fn call_of(name: &[u8]) -> u8 {
-    if same(name, b"start") {
-        return START;
+    match name {
+        b"start" => START,
+        b"add" => ADD,
+        b"inverse" => INVERSE,
+        b"write_report" => WRITE_REPORT,
+        _ => reader_of(name),
     }
-    if same(name, b"add") {
-        return ADD;
-    }
-    if same(name, b"inverse") {
-        return INVERSE;
-    }
-    if same(name, b"write_report") {
-        return WRITE_REPORT;
-    }
-    reader_of(name)
 }
 
 // Is this a call, and are the parts that it does not take empty?

@@ -4,6 +4,8 @@ use calls_lists::refusals;
 use calls_text::{are_below, are_numbers, number, print};
 use record_format::gate::GateCheck;
 use records::{Checked, Report, ReportRead};
+use std::io;
+use std::io::Write;
 
 // Number k of a text of numbers, as a byte.
 pub(crate) fn byte_at(numbers: &[u8], k: usize) -> u8 {
@@ -11,49 +13,49 @@ pub(crate) fn byte_at(numbers: &[u8], k: usize) -> u8 {
 }
 
 // check: `accepted`, n and g, or the refusal.
-fn check(record: &[u8]) {
+fn check(out: &mut impl Write, record: &[u8]) -> io::Result<()> {
     match records::check(record) {
         Checked::Accepted { n, g } => {
-            print::text(b"accepted");
-            print::number(n);
-            print::number(g);
+            print::text(out, b"accepted")?;
+            print::number(out, n)?;
+            print::number(out, g)
         }
-        Checked::Refused(r) => refusals::show(r),
+        Checked::Refused(r) => refusals::show(out, r),
     }
 }
 
 // gates: the part that is handed back.
-fn gates(record: &[u8]) {
-    print::text(b"gates");
-    print::bytes(records::gates(record));
+fn gates(out: &mut impl Write, record: &[u8]) -> io::Result<()> {
+    print::text(out, b"gates")?;
+    print::bytes(out, records::gates(record))
 }
 
 // A report's eight fields.
-fn fields(r: Report) {
-    print::text(b"fields");
-    print::number(print::wide(r.verdict));
+fn fields(out: &mut impl Write, r: Report) -> io::Result<()> {
+    print::text(out, b"fields")?;
+    print::number(out, print::wide(r.verdict))?;
     let counts = [r.pins, r.sums, r.turns, r.joins, r.left];
-    print::result(r.first, r.second, counts);
+    print::result(out, r.first, r.second, counts)
 }
 
 // read_report: the eight fields, or the refusal.
-fn read_report(report: &[u8]) {
+fn read_report(out: &mut impl Write, report: &[u8]) -> io::Result<()> {
     match records::read_report(report) {
-        ReportRead::Fields(r) => fields(r),
-        ReportRead::Refused(r) => refusals::show(r),
+        ReportRead::Fields(r) => fields(out, r),
+        ReportRead::Refused(r) => refusals::show(out, r),
     }
 }
 
 // check_gate, of the numbers n, index, kind, a and b: `good`, or the refusal.
-fn check_gate(numbers: &[u8]) {
+fn check_gate(out: &mut impl Write, numbers: &[u8]) -> io::Result<()> {
     let n = number(numbers, 0);
     let index = number(numbers, 1);
     let kind = byte_at(numbers, 2);
     let a = byte_at(numbers, 3);
     let b = byte_at(numbers, 4);
     match record_bytes::check_gate(n, index, kind, a, b) {
-        GateCheck::Good => print::text(b"good"),
-        GateCheck::Refused(r) => refusals::show(r),
+        GateCheck::Good => print::text(out, b"good"),
+        GateCheck::Refused(r) => refusals::show(out, r),
     }
 }
 
@@ -69,15 +71,14 @@ fn is_well(call: u8, numbers: &[u8]) -> bool {
 }
 
 // A call that reads.
-pub(crate) fn run(call: u8, numbers: &[u8], bytes: &[u8]) {
+pub(crate) fn run(out: &mut impl Write, call: u8, numbers: &[u8], bytes: &[u8]) -> io::Result<()> {
     if !is_well(call, numbers) {
-        print::bad();
-        return;
+        return print::bad(out);
     }
     match call {
-        names::CHECK => check(bytes),
-        names::GATES => gates(bytes),
-        names::READ_REPORT => read_report(bytes),
-        _ => check_gate(numbers),
+        names::CHECK => check(out, bytes),
+        names::GATES => gates(out, bytes),
+        names::READ_REPORT => read_report(out, bytes),
+        _ => check_gate(out, numbers),
     }
 }

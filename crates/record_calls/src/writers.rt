@@ -4,6 +4,8 @@ use crate::readers::byte_at;
 use calls_lists::refusals;
 use calls_text::{are_below, are_numbers, number, print};
 use records::{Report, Written};
+use std::io;
+use std::io::Write;
 
 // Number k of a text of numbers, as two bytes.
 fn pair_at(numbers: &[u8], k: usize) -> u16 {
@@ -73,28 +75,32 @@ fn answer(call: u8, numbers: &[u8], record: &[u8], buffer: &mut [u8]) -> Written
 }
 
 // A writer's answer: the record's length, or the refusal.
-fn show(written: Written) {
+fn show(out: &mut impl Write, written: Written) -> io::Result<()> {
     match written {
         Written::Length(size) => {
-            print::text(b"length");
-            print::number(size);
+            print::text(out, b"length")?;
+            print::number(out, size)
         }
-        Written::Refused(r) => refusals::show(r),
+        Written::Refused(r) => refusals::show(out, r),
     }
 }
 
 // A call that writes.
-pub(crate) fn run(call: u8, numbers: &[u8], record: &[u8], buffer: &mut [u8]) {
+pub(crate) fn run(
+    out: &mut impl Write,
+    call: u8,
+    numbers: &[u8],
+    record: &[u8],
+    buffer: &mut [u8],
+) -> io::Result<()> {
     if !is_well(call, numbers) {
-        print::bad();
-        return;
+        return print::bad(out);
     }
     let size = number(numbers, 0);
     if size > buffer.len() {
-        print::bad();
-        return;
+        return print::bad(out);
     }
     let written = answer(call, numbers, record, &mut buffer[0..size]);
-    show(written);
-    print::bytes(buffer);
+    show(out, written)?;
+    print::bytes(out, buffer)
 }

@@ -2,6 +2,7 @@
 // call is turned down"; document 02, item 1). Here stand the format's definitions and laws, and the types of the answers. Licensees use
 // `records`.
 #![tactic(auto)]
+
 pub mod gate;
 
 // The bytes of a record's head: mark, n, g.

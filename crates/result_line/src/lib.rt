@@ -1,6 +1,7 @@
 // The line that the program `compare` prints: document 01, "Pairs to try". The verdict's word and seven numbers, or `refused` and the number,
 // as bytes at the front of a lent buffer. write_answer has no `requires`.
 #![tactic(auto)]
+
 ghost use Rattle.comparison_types.specs.Call.{result_of, said_of, says};
 ghost use Rattle.line_bytes.specs.Line.{AtFront};
 ghost use Rattle.result_line.specs.Line.{line_of};

@@ -1,5 +1,6 @@
 // The line of a verdict, as a program prints it: its word and some numbers, as bytes at the front of a lent buffer.
 #![tactic(auto)]
+
 ghost use Rattle.std.specs.Prelude.{◌≤◌, length};
 ghost use Rattle.comparison_types.specs.Call.{verdict_of};
 ghost use Rattle.line_bytes.specs.Line.{line_with, AtFront};

@@ -1,0 +1,37 @@
+-- `comparison_searching::search` meets its contract: the answer is that of the first weight that has one; where no coefficient is odd and
+-- no input of weight 1 or 2 differs, none of weight 3 does.
+-- Assumes nothing.
+use mathlib.Core.Path.{sym, ◌∙◌}
+use native.Mathlib.Omega.{arith}
+use borrow.Author.Tests.{eqb-true}
+use borrow.Author.Rules.{rules}
+use Rattle.comparison_types.proofs.SearchLaws.{first_of_one, first_of_two, first_of_three, agreed}
+use Rattle.comparison_types.proofs.TripleLaws.{none_of_three}
+use Rattle.comparison_searching.proofs.search.Goals as goal
+
+pub returns-then-one-ne0 : goal.returns-then-one-ne0
+returns-then-one-ne0 c = first_of_one _ _ _ c.weight_one-one.ensures c.if-one-ne0.true
+
+pub returns-then-two-ne0 : goal.returns-then-two-ne0
+returns-then-two-ne0 c = first_of_two _ _ _ c.weight_one-one.ensures (omega arith) _ c.weight_two-two.ensures c.if-two-ne0.true
+
+pub returns-then-is_empty : goal.returns-then-is_empty
+returns-then-is_empty c = let one = c.weight_one-one.ensures in
+    let two = c.weight_two-two.ensures in
+    first_of_three _ _ _ one (omega arith) _ two (omega arith) _
+    (none_of_three _ _ (agreed _ _ _ one (omega arith) _ two (omega arith)) _
+    (eqb-true _ 0 (sym c.is_empty.ensures ∙ c.if-is_empty.true)) c.odd_mask-mask.ensures)
+
+pub weight_three-requires : goal.weight_three-requires
+weight_three-requires c = let one = c.weight_one-one.ensures in (
+  search rules,
+  search rules,
+  search rules,
+  agreed _ _ _ one (omega arith) _ c.weight_two-two.ensures (omega arith),
+  c.odd_mask-mask.ensures,
+)
+
+pub returns : goal.returns
+returns c = first_of_three _ _ _ c.weight_one-one.ensures (omega arith) _
+    c.weight_two-two.ensures (omega arith) _
+    c.weight_three.ensures

@@ -1,0 +1,17 @@
+-- `phase_sum_terms::terms::zero_words` meets its contract. The loop's invariant: zeros stand from the first place up to i, and the rest
+-- is as it was. The measure is how many places are left.
+-- Assumes nothing.
+use native.Mathlib.Omega.{arith}
+use lib.ListN.{length-set}
+use Rattle.phase_sum_types.proofs.Places.{filled_more}
+use Rattle.phase_sum_terms.proofs.terms.zero_words.Goals as goal
+
+pub loop-i-preserved : goal.loop-i-preserved
+loop-i-preserved c = let a = c.args in
+    let at-loop = c.loop-i in
+    let inv = at-loop.invariant in (
+      omega arith,
+      omega arith,
+      simp length-set inv.2,
+      rw inv.3 (filled_more a.from at-loop.i a.words.now inv.0 (omega arith)),
+    )
