@@ -3,6 +3,7 @@
 // nothing that it was lent. All that is public here is the call, an answer or its number, or a limit; verdicts and refusals are those of
 // `comparison`.
 #![tactic(auto)]
+
 ghost use Rattle.std.specs.Prelude.{◌≡◌, length};
 ghost use Rattle.dense_types.specs.Call.{found, found_of, said_of, dense_comparison, left_by};
 ghost use Rattle.dense_types.specs.Clauses.{Exact, Sound, First, Inputs, Agrees};
