@@ -1,6 +1,7 @@
 // The phase-sum layer, stepping: the single steps of the reduction on terms in lent workspaces and on wires. Document 01, "Reducing it".
 // Each change is one pass over the terms and one canonical form.
 #![tactic(auto)]
+
 ghost use Rattle.std.specs.Prelude.{◌≡◌, ◌+◌, ◌<◌, ◌≤◌, cond, length, eqb};
 ghost use Rattle.phase_sum_meaning.specs.Stepping.{replace, take_out, turned};
 ghost use Rattle.phase_sum_meaning.specs.Room.{most_variables};

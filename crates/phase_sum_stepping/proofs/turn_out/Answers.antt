@@ -1,0 +1,35 @@
+-- `phase_sum_stepping::turn_out` meets its contract: the terms without y are stored, the turn's term is put behind them, and all are merged.
+-- Assumes nothing.
+use mathlib.Core.Path.{refl}
+use mathlib.Core.List.{[], ◌∷◌}
+use native.Mathlib.Omega.{arith}
+use Rattle.phase_sum_meaning.specs.Stepping.{take_out, turned}
+use Rattle.phase_sum_types.specs.Workspace.{set_of, sets_at, slices, sum_of}
+use Rattle.phase_sum_types.proofs.TwoWords.{all_inside}
+use Rattle.phase_sum_types.proofs.Members.{members-without}
+use Rattle.phase_sum_types.proofs.Changing.{became}
+use Rattle.phase_sum_types.proofs.Passes.{turned_out}
+use Rattle.phase_sum_types.proofs.WireLaws.{stored-count}
+use Rattle.phase_sum_stepping.proofs.turn_out.Goals as goal
+
+pub canonical-requires : goal.canonical-requires
+canonical-requires c = let pre = c.requires in
+    let long = c.take_out_unmerged.auto.sets in
+    let count = stored-count (_ ∷ []) (all_inside _ (omega (arith, pre.1, pre.2, long))) (omega (arith, pre.2)) c.append-more.ensures in
+    (omega arith, omega arith)
+
+pub returns : goal.returns
+unfolding turned take_out
+returns c ws fs = let a = c.args in
+    let pre = c.requires in
+    let phase = a.sum.phase in
+    let l = slices ws fs (sets_at a.sets.now) a.coeffs.now in
+    let room = all_inside a.sets.now {m = phase.count} (omega (arith, pre.1, pre.2)) in
+    became (turned a.c (set_of a.l) (take_out a.y (sum_of a.sum l))) _ l _
+    (turned_out a.y a.c (set_of a.l) phase room (omega (arith, pre.2))
+    (rw (← c.turn_constant.ensures) c.add.ensures)
+    c.take_out_unmerged.ensures
+    (rw c.turn_coeff.ensures at c.append-more.ensures)
+    c.canonical.ensures)
+    refl
+    (rw c.without.ensures (members-without (set_of a.sum.live) a.y))
