@@ -1,5 +1,6 @@
 // The comparison layer, pinning: each output wire set equal to its input, qubit 0 upwards. Document 01, "Reducing it".
 #![tactic(auto)]
+
 ghost use Rattle.std.specs.Prelude.{◌≡◌, ◌+◌, ◌<◌, ◌≤◌, length, get_or};
 ghost use Rattle.phase_sum_meaning.specs.Parity.{of, ◌⊕◌, rest};
 ghost use Rattle.phase_sum_meaning.specs.Building.{input};
