@@ -1,5 +1,6 @@
 // The dense layer, checking: the checks on a call, in document 02's order. Those on the two records, then 14, then 10.
 #![tactic(auto)]
+
 ghost use Rattle.std.specs.Prelude.{◌≡◌};
 ghost use Rattle.record_format.specs.Row.{first as Row·first};
 ghost use Rattle.record_format.specs.Reading.{read};

@@ -1,6 +1,7 @@
 // The phase-sum layer, gates: what a gate that is more than a move of wires does to the wires and the terms. Document 01, "Building the sum".
 // The wires are two lent slices, sets and constant bits, one place a qubit, changed in place; the terms are put one behind the other.
 #![tactic(auto)]
+
 ghost use Rattle.std.specs.Prelude.{◌≡◌, ℕ, ◌+◌, ◌<◌, ◌≤◌, false, [], ◌∷◌, length};
 ghost use Rattle.record_format.specs.Gate.{gate_of, raw, one, two, Y, CZ};
 ghost use Rattle.phase_sum_meaning.specs.Building.{PathSum, product_by};

@@ -4,5 +4,6 @@ use Rattle.dense_gates.proofs.Table.{table_is}
 use Rattle.dense_gates.proofs.matrix_entry.Goals as goal
 
 pub returns : goal.returns
-returns c = let all = table_is c.args.kind c.args.row c.args.column c.requires.0 c.requires.1 c.requires.2 in
+returns c =
+    let all = table_is c.args.kind c.args.row c.args.column c.requires.0 c.requires.1 c.requires.2 in
     record { entry = all.0; small = all.1 }

@@ -27,4 +27,5 @@ returns c =
     let a = c.args in
     let first = amplitude_at a.first.now in
     let second = amplitude_at a.second.now in
-    sym (below_pass (2 ^ a.n) (λ u. eqω (ω^ a.j (first u)) (second u)) (λ w l. c.loop-w.invariant.1 w (omega (arith, c.power-end.ensures))))
+    sym (below_pass (2 ^ a.n) (λ u. eqω (ω^ a.j (first u)) (second u))
+    (λ w l. c.loop-w.invariant.1 w (omega (arith, c.power-end.ensures))))

@@ -9,5 +9,6 @@ pub slice_bounds-carries-end : goal.slice_bounds-carries-end
 slice_bounds-carries-end c = simp length-take (omega arith)
 
 pub carries-requires : goal.carries-requires
-carries-requires c = let room = few_places c.args.n c.requires.0 in
+carries-requires c =
+    let room = few_places c.args.n c.requires.0 in
     (c.requires.0, c.requires.1, simp length-take (omega arith), simp (length-take, length-drop) (omega arith), c.requires.3)

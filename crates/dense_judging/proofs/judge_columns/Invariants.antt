@@ -8,7 +8,11 @@ use Rattle.amplitude.specs.Circuit.{Fits}
 use Rattle.dense_judging.proofs.judge_columns.Given as goal
 
 abbrev pub invariant-loop-v : goal.invariant-loop-v
-invariant-loop-v l = (1 ≤ l.v) × (l.v ≤ 2 ^ l.n) × (length l.buffer ≡ length l.initial.buffer) × ((u : ℕ) → u < l.v → Fits l.n l.j (gates_in l.first) (gates_in l.second) u)
+invariant-loop-v l =
+    (1 ≤ l.v)
+    × (l.v ≤ 2 ^ l.n)
+    × (length l.buffer ≡ length l.initial.buffer)
+    × ((u : ℕ) → u < l.v → Fits l.n l.j (gates_in l.first) (gates_in l.second) u)
 
 abbrev pub decreases-loop-v : goal.decreases-loop-v
 decreases-loop-v l = 2 ^ l.n - l.v

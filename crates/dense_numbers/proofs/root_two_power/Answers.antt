@@ -14,10 +14,12 @@ unfolding √2^ 1ω whole
 loop-i-init c = (omega arith, refl)
 
 pub times_root_two-z-requires : goal.times_root_two-z-requires
-times_root_two-z-requires c = let l = c.loop-i in
+times_root_two-z-requires c =
+    let l = c.loop-i in
     rw l.invariant.1 (sized_more (0 + l.i) most_doublings _ (omega arith) (sized_√2^ l.i 0 1ω sized_1ω))
 
 pub loop-i-preserved : goal.loop-i-preserved
 unfolding √2^
-loop-i-preserved c = let l = c.loop-i in
+loop-i-preserved c =
+    let l = c.loop-i in
     (omega arith, rw (add-one l.i) (c.times_root_two-z.ensures ∙ ap mul√2 l.invariant.1))

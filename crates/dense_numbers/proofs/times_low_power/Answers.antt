@@ -24,5 +24,6 @@ times_omega-requires c = rw (c.times_omega-z.ensures, c.times_omega-y.ensures)
 
 pub returns : goal.returns
 unfolding ω^
-returns c = let three : c.args.k ≡ 3 = omega (arith, c.if-k-eq2.false, c.if-k-eq1.false) in
+returns c =
+    let three : c.args.k ≡ 3 = omega (arith, c.if-k-eq2.false, c.if-k-eq1.false) in
     rw three (c.times_omega.ensures ∙ ap mulω (c.times_omega-z.ensures ∙ ap mulω c.times_omega-y.ensures))

@@ -24,7 +24,8 @@ times_low_power-requires-2 c = (
 )
 
 pub returns : goal.returns
-returns c = let x = number c.args.x in
+returns c =
+    let x = number c.args.x in
     let k = c.args.k in
     let split : (k - 4) + 4 ≡ k = omega (arith, c.if-k-lt4.false) in
     c.times_low_power-2.ensures

@@ -12,12 +12,14 @@ use Rattle.dense_running.proofs.Stepwise.{ready_small, one_run, all_run}
 use Rattle.dense_running.proofs.run_gates.Goals as goal
 
 pub run_gate-requires : goal.run_gate-requires
-run_gate-requires c = let l = c.loop-i in
+run_gate-requires c =
+    let l = c.loop-i in
     let t = rw (gates_from_lem c.args.gates.now l.i (omega arith)) at l.invariant.3 in
     (t.ready.within.0, c.requires.1, omega (arith, l.invariant.2), ready_small c.args.n _ l.column t.ready)
 
 pub loop-i-preserved : goal.loop-i-preserved
-loop-i-preserved c = let l = c.loop-i in
+loop-i-preserved c =
+    let l = c.loop-i in
     let bytes = c.args.gates.now in (
       omega arith,
       omega arith,
@@ -28,5 +30,6 @@ loop-i-preserved c = let l = c.loop-i in
 
 pub returns : goal.returns
 unfolding raws
-returns c = let l = c.loop-i in
+returns c =
+    let l = c.loop-i in
     all_run c.args.n _ l.column (rw (drop_of_length-le c.args.gates.now c.loop-i-test.false) at l.invariant.3)

@@ -14,15 +14,20 @@ use Rattle.dense_turning.proofs.Local.{cx_local}
 use Rattle.dense_turning.proofs.apply_cx.Goals as goal
 
 pub loop-w-preserved : goal.loop-w-preserved
-loop-w-preserved c = let l = c.loop-w in (
-  omega (arith, c.power-end.ensures),
-  c.apply_cx_at.auto.column ∙ l.invariant.1,
-  pass_turn c.args.n (put c.args.b false) (apply (two CX c.args.a c.args.b)) (amplitude_at c.args.column.now) l.w l.column c.apply_cx_at.new.column
-      (cx_local c.args.n c.args.a c.args.b c.requires.1) l.invariant.2 c.apply_cx_at.ensures,
-)
+loop-w-preserved c =
+    let a = c.args in
+    let l = c.loop-w in (
+      omega (arith, c.power-end.ensures),
+      c.apply_cx_at.auto.column ∙ l.invariant.1,
+      pass_turn a.n (put a.b false) (apply (two CX a.a a.b)) (amplitude_at a.column.now)
+          l.w l.column c.apply_cx_at.new.column
+          (cx_local a.n a.a a.b c.requires.1) l.invariant.2 c.apply_cx_at.ensures,
+    )
 
 pub returns : goal.returns
-returns c = let l = c.loop-w in
-    let e : l.w ≡ 2 ^ c.args.n = omega (arith, c.power-end.ensures) in
-    pass_end c.args.n (put c.args.b false) (apply (two CX c.args.a c.args.b)) (amplitude_at c.args.column.now) l.column
-    (λ u b. put_below c.args.n c.args.b false u c.requires.1 b) (rw e at l.invariant.2)
+returns c =
+    let a = c.args in
+    let l = c.loop-w in
+    let e : l.w ≡ 2 ^ a.n = omega (arith, c.power-end.ensures) in
+    pass_end a.n (put a.b false) (apply (two CX a.a a.b)) (amplitude_at a.column.now) l.column
+    (λ u b. put_below a.n a.b false u c.requires.1 b) (rw e at l.invariant.2)

@@ -12,7 +12,10 @@ use Rattle.dense_columns.proofs.Passes.{Passed}
 use Rattle.dense_turning.proofs.apply_cx.Given as goal
 
 abbrev pub invariant-loop-w : goal.invariant-loop-w
-invariant-loop-w l = (l.w ≤ 2 ^ l.n) × (length l.column ≡ length l.initial.column) × Passed l.n (put l.b false) (apply (two CX l.a l.b)) (amplitude_at l.initial.column) l.w l.column
+invariant-loop-w l =
+    (l.w ≤ 2 ^ l.n)
+    × (length l.column ≡ length l.initial.column)
+    × Passed l.n (put l.b false) (apply (two CX l.a l.b)) (amplitude_at l.initial.column) l.w l.column
 
 abbrev pub decreases-loop-w : goal.decreases-loop-w
 decreases-loop-w l = 2 ^ l.n - l.w

@@ -14,13 +14,15 @@ pub returns-then-has_bit : goal.returns-then-has_bit
 returns-then-has_bit c = none_turned c.args.n c.args.b c.args.w _ c.args.column.now (sym c.has_bit.ensures ∙ c.if-has_bit.true)
 
 pub exchange-requires : goal.exchange-requires
-exchange-requires c = let low : bit c.args.b c.args.w ≡ false = sym c.has_bit.ensures ∙ c.if-has_bit.false in
+exchange-requires c =
+    let low : bit c.args.b c.args.w ≡ false = sym c.has_bit.ensures ∙ c.if-has_bit.false in
     let high = upper_is c.args.b c.args.w c.power.result low c.power.ensures in
     let top = put_below c.args.n c.args.b true c.args.w c.requires.1 c.requires.4 in
     (omega arith, omega (arith, high, top))
 
 pub returns-then-has_bit-2 : goal.returns-then-has_bit-2
-returns-then-has_bit-2 c = let low : bit c.args.b c.args.w ≡ false = sym c.has_bit.ensures ∙ c.if-has_bit.false in
+returns-then-has_bit-2 c =
+    let low : bit c.args.b c.args.w ≡ false = sym c.has_bit.ensures ∙ c.if-has_bit.false in
     rw c.exchange.ensures
     (cx_turned c.args.n c.args.a c.args.b c.args.w _ c.args.column.now c.requires.2 c.requires.1 c.requires.4 c.requires.5 low
     (sym c.has_bit-2.ensures ∙ c.if-has_bit-2.true)

@@ -11,15 +11,20 @@ use Rattle.dense_turning.proofs.Local.{lowest, lowest_below, swap_local}
 use Rattle.dense_turning.proofs.apply_swap.Goals as goal
 
 pub loop-w-preserved : goal.loop-w-preserved
-loop-w-preserved c = let l = c.loop-w in (
-  omega (arith, c.power-end.ensures),
-  c.apply_swap_at.auto.column ∙ l.invariant.1,
-  pass_turn c.args.n (lowest c.args.a c.args.b) (apply (two SWAP c.args.a c.args.b)) (amplitude_at c.args.column.now) l.w l.column c.apply_swap_at.new.column
-      (swap_local c.args.n c.args.a c.args.b c.requires.0 c.requires.1 c.requires.2) l.invariant.2 c.apply_swap_at.ensures,
-)
+loop-w-preserved c =
+    let a = c.args in
+    let l = c.loop-w in (
+      omega (arith, c.power-end.ensures),
+      c.apply_swap_at.auto.column ∙ l.invariant.1,
+      pass_turn a.n (lowest a.a a.b) (apply (two SWAP a.a a.b)) (amplitude_at a.column.now)
+          l.w l.column c.apply_swap_at.new.column
+          (swap_local a.n a.a a.b c.requires.0 c.requires.1 c.requires.2) l.invariant.2 c.apply_swap_at.ensures,
+    )
 
 pub returns : goal.returns
-returns c = let l = c.loop-w in
-    let e : l.w ≡ 2 ^ c.args.n = omega (arith, c.power-end.ensures) in
-    pass_end c.args.n (lowest c.args.a c.args.b) (apply (two SWAP c.args.a c.args.b)) (amplitude_at c.args.column.now) l.column
-    (λ u b. lowest_below c.args.n c.args.a c.args.b u c.requires.0 c.requires.1 b) (rw e at l.invariant.2)
+returns c =
+    let a = c.args in
+    let l = c.loop-w in
+    let e : l.w ≡ 2 ^ a.n = omega (arith, c.power-end.ensures) in
+    pass_end a.n (lowest a.a a.b) (apply (two SWAP a.a a.b)) (amplitude_at a.column.now) l.column
+    (λ u b. lowest_below a.n a.a a.b u c.requires.0 c.requires.1 b) (rw e at l.invariant.2)

@@ -11,13 +11,18 @@ use Rattle.dense_turning.proofs.Turns.{first_not_lowest, second_not_lowest, swap
 use Rattle.dense_turning.proofs.apply_swap_at.Goals as goal
 
 pub returns-then-has_bit : goal.returns-then-has_bit
-returns-then-has_bit c = first_not_lowest c.args.n c.args.a c.args.b c.args.w _ c.args.column.now c.requires.2 (sym c.has_bit.ensures ∙ c.if-has_bit.true)
+returns-then-has_bit c =
+    first_not_lowest c.args.n c.args.a c.args.b c.args.w _ c.args.column.now c.requires.2
+    (sym c.has_bit.ensures ∙ c.if-has_bit.true)
 
 pub returns-then-has_bit-2 : goal.returns-then-has_bit-2
-returns-then-has_bit-2 c = second_not_lowest c.args.n c.args.a c.args.b c.args.w _ c.args.column.now c.requires.2 (sym c.has_bit-2.ensures ∙ c.if-has_bit-2.true)
+returns-then-has_bit-2 c =
+    second_not_lowest c.args.n c.args.a c.args.b c.args.w _ c.args.column.now c.requires.2
+    (sym c.has_bit-2.ensures ∙ c.if-has_bit-2.true)
 
 pub exchange-requires : goal.exchange-requires
-exchange-requires c = let low-a : bit c.args.a c.args.w ≡ false = sym c.has_bit.ensures ∙ c.if-has_bit.false in
+exchange-requires c =
+    let low-a : bit c.args.a c.args.w ≡ false = sym c.has_bit.ensures ∙ c.if-has_bit.false in
     let low-b : bit c.args.b c.args.w ≡ false = sym c.has_bit-2.ensures ∙ c.if-has_bit-2.false in
     let p = upper_is c.args.a c.args.w c.power.result low-a c.power.ensures in
     let q = upper_is c.args.b c.args.w c.power-2.result low-b c.power-2.ensures in (
@@ -26,7 +31,8 @@ exchange-requires c = let low-a : bit c.args.a c.args.w ≡ false = sym c.has_bi
     )
 
 pub returns : goal.returns
-returns c = let low-a : bit c.args.a c.args.w ≡ false = sym c.has_bit.ensures ∙ c.if-has_bit.false in
+returns c =
+    let low-a : bit c.args.a c.args.w ≡ false = sym c.has_bit.ensures ∙ c.if-has_bit.false in
     let low-b : bit c.args.b c.args.w ≡ false = sym c.has_bit-2.ensures ∙ c.if-has_bit-2.false in
     rw c.exchange.ensures
     (swap_turned c.args.n c.args.a c.args.b c.args.w _ _ c.args.column.now c.requires.0 c.requires.1 c.requires.2 c.requires.4 c.requires.5

@@ -13,15 +13,20 @@ use Rattle.dense_turning.proofs.Local.{crossed_local}
 use Rattle.dense_turning.proofs.cross_along.Goals as goal
 
 pub loop-w-preserved : goal.loop-w-preserved
-loop-w-preserved c = let l = c.loop-w in (
-  omega (arith, c.power-end.ensures),
-  c.cross_at.auto.column ∙ l.invariant.1,
-  pass_turn c.args.n (put c.args.q false) (crossed c.args.q c.args.b c.args.c) (amplitude_at c.args.column.now) l.w l.column c.cross_at.new.column
-      (crossed_local c.args.n c.args.q c.args.b c.args.c c.requires.0) l.invariant.2 c.cross_at.ensures,
-)
+loop-w-preserved c =
+    let a = c.args in
+    let l = c.loop-w in (
+      omega (arith, c.power-end.ensures),
+      c.cross_at.auto.column ∙ l.invariant.1,
+      pass_turn a.n (put a.q false) (crossed a.q a.b a.c) (amplitude_at a.column.now)
+          l.w l.column c.cross_at.new.column
+          (crossed_local a.n a.q a.b a.c c.requires.0) l.invariant.2 c.cross_at.ensures,
+    )
 
 pub returns : goal.returns
-returns c = let l = c.loop-w in
-    let e : l.w ≡ 2 ^ c.args.n = omega (arith, c.power-end.ensures) in
-    pass_end c.args.n (put c.args.q false) (crossed c.args.q c.args.b c.args.c) (amplitude_at c.args.column.now) l.column
-    (λ u b. put_below c.args.n c.args.q false u c.requires.0 b) (rw e at l.invariant.2)
+returns c =
+    let a = c.args in
+    let l = c.loop-w in
+    let e : l.w ≡ 2 ^ a.n = omega (arith, c.power-end.ensures) in
+    pass_end a.n (put a.q false) (crossed a.q a.b a.c) (amplitude_at a.column.now) l.column
+    (λ u b. put_below a.n a.q false u c.requires.0 b) (rw e at l.invariant.2)

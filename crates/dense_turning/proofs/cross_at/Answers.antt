@@ -13,7 +13,8 @@ pub returns-then-has_bit : goal.returns-then-has_bit
 returns-then-has_bit c = none_turned c.args.n c.args.q c.args.w _ c.args.column.now (sym c.has_bit.ensures ∙ c.if-has_bit.true)
 
 pub cross-requires : goal.cross-requires
-cross-requires c = let low : bit c.args.q c.args.w ≡ false = sym c.has_bit.ensures ∙ c.if-has_bit.false in
+cross-requires c =
+    let low : bit c.args.q c.args.w ≡ false = sym c.has_bit.ensures ∙ c.if-has_bit.false in
     let own = put_own c.args.q false c.args.w low in
     let high = upper_is c.args.q c.args.w c.power.result low c.power.ensures in
     let top = put_below c.args.n c.args.q true c.args.w c.requires.0 c.requires.4 in (
@@ -26,7 +27,8 @@ cross-requires c = let low : bit c.args.q c.args.w ≡ false = sym c.has_bit.ens
     )
 
 pub returns : goal.returns
-returns c = let low : bit c.args.q c.args.w ≡ false = sym c.has_bit.ensures ∙ c.if-has_bit.false in
+returns c =
+    let low : bit c.args.q c.args.w ≡ false = sym c.has_bit.ensures ∙ c.if-has_bit.false in
     rw c.cross.ensures
     (crossed_turned c.args.n c.args.q c.args.b c.args.c c.args.w _ c.args.column.now c.requires.0 c.requires.4 c.requires.5 low
     (upper_is c.args.q c.args.w c.power.result low c.power.ensures))

@@ -9,9 +9,12 @@ use Rattle.dense_turning.proofs.Local.{turned_local}
 use Rattle.dense_turning.proofs.turn_where.Goals as goal
 
 pub loop-w-preserved : goal.loop-w-preserved
-loop-w-preserved c = let l = c.loop-w in (
-  omega (arith, c.power-end.ensures),
-  c.turn_at.auto.column ∙ l.invariant.1,
-  pass_turn c.args.n itself (turned_where c.args.a c.args.b c.args.k) (amplitude_at c.args.column.now) l.w l.column c.turn_at.new.column
-      (turned_local c.args.n c.args.a c.args.b c.args.k) l.invariant.2 c.turn_at.ensures,
-)
+loop-w-preserved c =
+    let a = c.args in
+    let l = c.loop-w in (
+      omega (arith, c.power-end.ensures),
+      c.turn_at.auto.column ∙ l.invariant.1,
+      pass_turn a.n itself (turned_where a.a a.b a.k) (amplitude_at a.column.now)
+          l.w l.column c.turn_at.new.column
+          (turned_local a.n a.a a.b a.k) l.invariant.2 c.turn_at.ensures,
+    )

@@ -9,7 +9,10 @@ use Rattle.dense_turning.specs.Turns.{turned_where}
 use Rattle.dense_turning.proofs.turn_where.Given as goal
 
 abbrev pub invariant-loop-w : goal.invariant-loop-w
-invariant-loop-w l = (l.w ≤ 2 ^ l.n) × (length l.column ≡ length l.initial.column) × Passed l.n itself (turned_where l.a l.b l.k) (amplitude_at l.initial.column) l.w l.column
+invariant-loop-w l =
+    (l.w ≤ 2 ^ l.n)
+    × (length l.column ≡ length l.initial.column)
+    × Passed l.n itself (turned_where l.a l.b l.k) (amplitude_at l.initial.column) l.w l.column
 
 abbrev pub decreases-loop-w : goal.decreases-loop-w
 decreases-loop-w l = 2 ^ l.n - l.w

@@ -11,13 +11,15 @@ use Rattle.phase_sum_sets.proofs.at_most.Goals as goal
 
 pub returns-then-a-b : goal.returns-then-a-b
 unfolding set_of
-returns-then-a-b c = let a = c.args.a in
+returns-then-a-b c =
+    let a = c.args.a in
     let b = c.args.b in
     sym (leb_same a.low b.low (a.high ∷ []) (b.high ∷ []) (ap (λ (h : ℕ). wide (h ∷ [])) (omega arith)))
 
 pub returns : goal.returns
 unfolding set_of
-returns c = let a = c.args.a in
+returns c =
+    let a = c.args.a in
     let b = c.args.b in
     let other : wide (a.high ∷ []) ≡ wide (b.high ∷ []) → ⊥ =
     λ e. absurd (omega (arith, sym (wide_one a.high) ∙ (e ∙ wide_one b.high))) in

@@ -10,5 +10,6 @@ use Rattle.phase_sum_sets.proofs.below.Goals as goal
 
 pub returns : goal.returns
 unfolding set_of
-returns c = let a = c.args in
+returns c =
+    let a = c.args in
     rw (shifted_one a.n (search rules)) (sym (pair_rest a.n a.s.low a.s.high (omega arith)))

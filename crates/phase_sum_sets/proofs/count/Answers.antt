@@ -9,5 +9,6 @@ use Rattle.phase_sum_sets.proofs.count.Goals as goal
 
 pub returns : goal.returns
 unfolding set_of
-returns c = let s = c.args.s in
+returns c =
+    let s = c.args.s in
     sym (length-members (set_of s) (pair_below s.low s.high (omega arith) (omega arith)) ∙ pair_ones s.low s.high (omega arith) (omega arith))

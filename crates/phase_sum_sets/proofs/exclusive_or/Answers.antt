@@ -7,6 +7,7 @@ use Rattle.phase_sum_sets.proofs.exclusive_or.Goals as goal
 
 pub returns : goal.returns
 unfolding set_of
-returns c = let a = c.args.a in
+returns c =
+    let a = c.args.a in
     let b = c.args.b in
     pair_xor a.low a.high (omega arith) (omega arith) b.low b.high (omega arith) (omega arith)

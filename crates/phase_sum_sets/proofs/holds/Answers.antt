@@ -11,12 +11,14 @@ use Rattle.phase_sum_sets.proofs.holds.Goals as goal
 
 pub returns-then-v-lt-WORD_BITS : goal.returns-then-v-lt-WORD_BITS
 unfolding set_of
-returns-then-v-lt-WORD_BITS c = let a = c.args in
+returns-then-v-lt-WORD_BITS c =
+    let a = c.args in
     let s = a.s in
     shifted_bit a.v s.low ∙ sym (pair_low s.low s.high (omega arith) (omega arith) a.v (omega arith))
 
 pub returns : goal.returns
 unfolding set_of
-returns c = let a = c.args in
+returns c =
+    let a = c.args in
     let s = a.s in
     shifted_bit (a.v - word_bits) s.high ∙ sym (pair_high s.low s.high (omega arith) (omega arith) a.v (omega arith) (omega arith))

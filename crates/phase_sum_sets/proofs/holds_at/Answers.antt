@@ -7,5 +7,6 @@ use Rattle.phase_sum_types.proofs.TwoWords.{fitting, pair_member}
 use Rattle.phase_sum_sets.proofs.holds_at.Goals as goal
 
 pub returns : goal.returns
-returns c = let a = c.args in
+returns c =
+    let a = c.args in
     shifted_bit _ _ ∙ sym (pair_member a.words.now a.i (search rules) (fitting a.words.now c.type_inv.words) a.v (search rules))

@@ -8,4 +8,5 @@ use Rattle.phase_sum_sets.proofs.load.Goals as goal
 
 pub returns : goal.returns
 unfolding set_of
-returns c = let a = c.args in sym (pair_at a.words.now a.i (search rules))
+returns c =
+    let a = c.args in sym (pair_at a.words.now a.i (search rules))

@@ -14,19 +14,22 @@ use Rattle.phase_sum_sets.proofs.lowest.Goals as goal
 
 pub returns-then-s-ne0 : goal.returns-then-s-ne0
 unfolding set_of
-returns-then-s-ne0 c = let s = c.args.s in
+returns-then-s-ne0 c =
+    let s = c.args.s in
     let found = pair_lowest_low s.low s.high (omega arith) (omega arith) c.if-s-ne0.true in
     sym (first_lowest most_variables (count_trailing_zeros word_bits s.low) (set_of s) (omega (arith, found.1)) found.0)
 
 pub returns-then-s-ne0-2 : goal.returns-then-s-ne0-2
 unfolding set_of
-returns-then-s-ne0-2 c = let s = c.args.s in
+returns-then-s-ne0-2 c =
+    let s = c.args.s in
     let found = pair_lowest_high s.low s.high (omega arith) (omega arith) (omega arith) c.if-s-ne0-2.true in
     sym (first_lowest most_variables (word_bits + count_trailing_zeros word_bits s.high) (set_of s) (omega (arith, found.1)) found.0)
 
 pub returns : goal.returns
 unfolding set_of
-returns c = let s = c.args.s in
+returns c =
+    let s = c.args.s in
     let low : s.low ≡ 0 = omega arith in
     let high : s.high ≡ 0 = omega arith in
     rw (low, high, pair_none) (sym lowest_none)

@@ -9,7 +9,8 @@ use Rattle.phase_sum_sets.proofs.lowest_out.Goals as goal
 
 pub returns : goal.returns
 unfolding set_of
-returns c = let live = c.args.live in
+returns c =
+    let live = c.args.live in
     let s = c.args.s in
     c.lowest.ensures
     ∙ lowest_except (set_of live) (set_of s) _

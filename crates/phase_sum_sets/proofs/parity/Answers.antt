@@ -10,5 +10,6 @@ use Rattle.phase_sum_sets.proofs.parity.Goals as goal
 
 pub returns : goal.returns
 unfolding set_of
-returns c = let a = c.args in
+returns c =
+    let a = c.args in
     parity_counted a.s.low a.input ∙ sym (parity_low a.s.low (a.s.high ∷ []) a.input (omega arith) (omega arith))

@@ -9,6 +9,7 @@ use Rattle.phase_sum_types.proofs.TwoWords.{fitting, pair_without}
 use Rattle.phase_sum_sets.proofs.remove_at.Goals as goal
 
 pub returns : goal.returns
-returns c = let a = c.args in
+returns c =
+    let a = c.args in
     rw (shifted_one (a.v % word_bits) (omega arith))
-    (pair_without a.words.now a.i (search rules) (fitting a.words.now c.slice_known-1.given) a.v (search rules))
+    (pair_without a.words.now a.i (search rules) (fitting a.words.now (search rules)) a.v (search rules))

@@ -11,7 +11,8 @@ use Rattle.phase_sum_sets.proofs.same.Goals as goal
 
 pub returns-then-a-b : goal.returns-then-a-b
 unfolding set_of
-returns-then-a-b c = let a = c.args.a in
+returns-then-a-b c =
+    let a = c.args.a in
     let b = c.args.b in
     let other : wide (a.high ∷ []) ≡ wide (b.high ∷ []) → ⊥ =
     λ e. absurd (omega (arith, sym (wide_one a.high) ∙ (e ∙ wide_one b.high))) in
@@ -19,6 +20,7 @@ returns-then-a-b c = let a = c.args.a in
 
 pub returns : goal.returns
 unfolding set_of
-returns c = let a = c.args.a in
+returns c =
+    let a = c.args.a in
     let b = c.args.b in
     sym (eqb_same a.low b.low (a.high ∷ []) (b.high ∷ []) (omega arith) (omega arith) (ap (λ (h : ℕ). wide (h ∷ [])) (omega arith)))

@@ -10,10 +10,12 @@ use Rattle.phase_sum_sets.proofs.single.Goals as goal
 
 pub returns-then-v-lt-WORD_BITS : goal.returns-then-v-lt-WORD_BITS
 unfolding set_of
-returns-then-v-lt-WORD_BITS c = let v = c.args.v in
+returns-then-v-lt-WORD_BITS c =
+    let v = c.args.v in
     rw (shifted_one v (omega arith)) (pair_single_low v (omega arith))
 
 pub returns : goal.returns
 unfolding set_of
-returns c = let v = c.args.v in
+returns c =
+    let v = c.args.v in
     rw (shifted_one (v - word_bits) (omega arith)) (pair_single_high v (omega arith) (omega arith))

@@ -7,4 +7,5 @@ use Rattle.phase_sum_sets.proofs.store.Goals as goal
 
 pub returns : goal.returns
 unfolding set_of
-returns c = let a = c.args in pair_stored a.words.now a.i (omega arith) a.s.low a.s.high
+returns c =
+    let a = c.args in pair_stored a.words.now a.i (omega arith) a.s.low a.s.high

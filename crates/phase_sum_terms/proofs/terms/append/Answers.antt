@@ -9,7 +9,8 @@ use Rattle.phase_sum_types.proofs.TwoWords.{inside}
 use Rattle.phase_sum_terms.proofs.terms.append.Goals as goal
 
 pub returns : goal.returns
-returns c = let a = c.args in
+returns c =
+    let a = c.args in
     let ws = a.sets.now in
     rw c.store.ensures
     (stored_next

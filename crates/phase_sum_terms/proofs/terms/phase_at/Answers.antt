@@ -1,5 +1,4 @@
--- `phase_sum_terms::terms::phase_at` meets its contract. The loop's invariant: the sum is the phase that the first i terms give, mod 8.
--- The measure is how many terms are left.
+-- `phase_sum_terms::terms::phase_at` meets its contract: each turn adds the share of one more term.
 -- Assumes nothing.
 use mathlib.Core.Path.{◌≡◌, ◌∙◌}
 use native.Mathlib.Omega.{arith}
@@ -10,11 +9,13 @@ use Rattle.phase_sum_types.proofs.Places.{phase_so_far_none, phase_so_far_more, 
 use Rattle.phase_sum_terms.proofs.terms.phase_at.Goals as goal
 
 pub loop-i-init : goal.loop-i-init
-loop-i-init c = let a = c.args in
+loop-i-init c =
+    let a = c.args in
     (omega arith, omega (arith, phase_so_far_none c.add-sum.result (sets_in words_each a.sets.now) a.coeffs.now a.input))
 
 pub loop-i-preserved : goal.loop-i-preserved
-loop-i-preserved c = let a = c.args in
+loop-i-preserved c =
+    let a = c.args in
     let ws = a.sets.now in
     let ss = sets_in words_each ws in
     let cs = a.coeffs.now in
@@ -23,7 +24,8 @@ loop-i-preserved c = let a = c.args in
     (omega arith, omega arith)
 
 pub returns : goal.returns
-returns c = let a = c.args in
+returns c =
+    let a = c.args in
     let done : c.loop-i.i ≡ a.phase.count = omega arith in
     c.loop-i.invariant.1
     ∙ rw (done, c.add-sum.ensures)

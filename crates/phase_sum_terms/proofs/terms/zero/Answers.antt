@@ -9,8 +9,9 @@ use Rattle.phase_sum_terms.proofs.Zeros.{sets_filled}
 use Rattle.phase_sum_terms.proofs.terms.zero.Goals as goal
 
 pub returns : goal.returns
-returns c = let a = c.args in record {
-  sets = ap (sets_in words_each) c.zero_words.ensures
-      ∙ sets_filled words_each some a.sets.now a.from a.to c.requires.0 (omega arith);
-  bytes = c.zero_bytes.ensures;
-}
+returns c =
+    let a = c.args in record {
+      sets = ap (sets_in words_each) c.zero_words.ensures
+          ∙ sets_filled words_each some a.sets.now a.from a.to c.requires.0 (omega arith);
+      bytes = c.zero_bytes.ensures;
+    }

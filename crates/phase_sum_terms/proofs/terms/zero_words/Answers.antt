@@ -1,5 +1,4 @@
--- `phase_sum_terms::terms::zero_words` meets its contract. The loop's invariant: zeros stand from the first place up to i, and the rest
--- is as it was. The measure is how many places are left.
+-- `phase_sum_terms::terms::zero_words` meets its contract: one more zero stored fills one more place.
 -- Assumes nothing.
 use native.Mathlib.Omega.{arith}
 use lib.ListN.{length-set}
@@ -7,7 +6,8 @@ use Rattle.phase_sum_types.proofs.Places.{filled_more}
 use Rattle.phase_sum_terms.proofs.terms.zero_words.Goals as goal
 
 pub loop-i-preserved : goal.loop-i-preserved
-loop-i-preserved c = let a = c.args in
+loop-i-preserved c =
+    let a = c.args in
     let at-loop = c.loop-i in
     let inv = at-loop.invariant in (
       omega arith,

@@ -7,5 +7,6 @@ use Rattle.phase_sum_types.proofs.WireLaws.{zip_set}
 use Rattle.phase_sum_terms.proofs.wires.set_wire.Goals as goal
 
 pub returns : goal.returns
-returns c = let a = c.args in
+returns c =
+    let a = c.args in
     rw c.store.ensures (zip_set (sets_in words_each a.ws.now) a.fs.now a.q (set_of a.w.set) a.w.flipped)
