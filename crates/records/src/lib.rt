@@ -2,6 +2,7 @@
 // down". Every call takes any bytes, refuses by number what is bad, and then changes no byte that it was lent. The crates record_* below have
 // the code, its contracts and what they cite.
 #![tactic(auto)]
+
 pub use record_bytes::number;
 pub use record_format::{Checked, Refusal, Report, ReportRead, Written};
 pub use record_reading::{check, gates};
