@@ -1,6 +1,7 @@
 // The phase-sum layer, building: the path sum of a pair of gate lists. Document 01, "Building the sum". The terms are put one behind the
 // other as the gates run, and merged once at the end.
 #![tactic(auto)]
+
 ghost use Rattle.std.specs.Prelude.{◌≡◌, ℕ, ◌-◌, ◌%◌, ◌≤◌, List, length};
 ghost use Rattle.record_format.specs.Gate.{inverse_list};
 ghost use Rattle.record_format.specs.Reading.{gates_in};
