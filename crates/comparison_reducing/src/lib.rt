@@ -1,5 +1,6 @@
 // The comparison layer, reducing: steps at the lowest ready variable, until none is ready or one is blocked. Document 01, "Reducing it".
 #![tactic(auto)]
+
 ghost use Rattle.std.specs.Prelude.{◌≡◌, ◌<◌, ◌≤◌, true, false, length};
 ghost use Rattle.amplitude.specs.Bits.{bit};
 ghost use Rattle.phase_sum_meaning.specs.Stepping.{kind_of, constraint, constrained, first_ready};

@@ -5,11 +5,9 @@ use mathlib.Core.Bool.{Bool, true, false, not, false≢true, true≢false}
 use Prim.Native.Nat.{ℕ, ◌%◌}
 use lib.Dec.{eqb}
 use Rattle.phase_sum_meaning.specs.Stepping.{kind_of, constraint}
-use borrow.Author.Rules.{rules}
 use borrow.Author.Tests.{eqb-true, eqb-false}
 use Rattle.comparison_types.proofs.StepCases.{kind_constraint, turn_free, sum_free}
-use Rattle.comparison_reducing.proofs.constrains.Statement.{statement}
-use Rattle.comparison_reducing.proofs.constrains.Tie as tie
+use Rattle.comparison_reducing.proofs.constrains.Goals as goal
 
 -- where C is nothing, L decides
 last :
@@ -22,17 +20,14 @@ last :
 last k l even nil true e = (λ h. absurd (false≢true h), λ h. sum_free k l nil (eqb-true l 0 e))
 last k l even nil false e = (λ h. kind_constraint k l even (λ x empty. eqb-false l 0 e empty), λ h. absurd (true≢false h))
 
-returns : tie.Need-returns
-returns c = (λ e. absurd (false≢true e), λ e. turn_free _ _ c.if1.true)
+pub returns-then-c-eq1-clause-no : goal.returns-then-c-eq1-clause-no
+returns-then-c-eq1-clause-no c e = turn_free _ _ c.if-c-eq1.true
 
-returns-2 : tie.Need-returns-2
-returns-2 c = (λ e. kind_constraint _ _ c.before.if1.false (λ nil empty. c.if2.true nil), λ e. absurd (true≢false e))
+pub returns-then-c-ne0-clause-yes : goal.returns-then-c-ne0-clause-yes
+returns-then-c-ne0-clause-yes c e = kind_constraint _ _ c.if-c-eq1.false (λ nil empty. c.if-c-ne0.true nil)
 
-is-empty-requires : tie.Need-is-empty-requires
-is-empty-requires c κs = search rules
+pub returns-clause-yes : goal.returns-clause-yes
+returns-clause-yes c = (last _ _ c.if-c-eq1.false c.if-c-ne0.false c.is_empty.result (sym c.is_empty.ensures)).0
 
-returns-3 : tie.Need-returns-3
-returns-3 c = last _ _ c.before.before.if1.false c.before.if2.false c.is-empty.result (sym c.is-empty.ensures)
-
-pub constrains_spec : {M : Type 1} → statement M
-constrains_spec = tie.close (tie.spec returns returns-2 is-empty-requires returns-3)
+pub returns-clause-no : goal.returns-clause-no
+returns-clause-no c = (last _ _ c.if-c-eq1.false c.if-c-ne0.false c.is_empty.result (sym c.is_empty.ensures)).1
