@@ -11,7 +11,7 @@ use std::env::FillError;
 use std::rt::Env;
 
 // Where a program's two records are, by its arguments.
-#[derive(Drop)]
+#[derive(Clone, Copy)]
 pub enum Source {
     // in standard input
     Stream,

@@ -16,7 +16,7 @@ pub const INPUT_SIZE: usize = 1542;
 pub const STREAM_SIZE: usize = 3083;
 
 // What was read: how many bytes stand at the start of the buffer, and whether a read failed.
-#[derive(Drop)]
+#[derive(Clone, Copy)]
 pub struct Input {
     pub failed: bool,
     pub size: usize,
