@@ -1,5 +1,4 @@
--- `phase_sum_building::path_variables` meets its contract. The loop's invariant: the set holds the variables from n to below v
--- and no others. The measure is how many variables are left.
+-- `phase_sum_building::path_variables` meets its contract: each turn puts one more variable in the set.
 -- Assumes nothing.
 use mathlib.Core.Path.{◌≡◌}
 use native.Mathlib.Omega.{arith}
@@ -11,15 +10,17 @@ pub loop-v-init : goal.loop-v-init
 loop-v-init c = (omega arith, omega arith, rw c.empty-set.ensures (window_empty c.args.n))
 
 pub loop-v-preserved : goal.loop-v-preserved
-loop-v-preserved c = let loop = c.loop-v in (
-  omega arith,
-  omega arith,
-  window_more c.args.n loop.v (set_of loop.set) (set_of c.union-set.result) loop.invariant.0
-      (rw c.single.ensures at c.union-set.ensures)
-      loop.invariant.2,
-)
+loop-v-preserved c =
+    let loop = c.loop-v in (
+      omega arith,
+      omega arith,
+      window_more c.args.n loop.v (set_of loop.set) (set_of c.union-set.result) loop.invariant.0
+          (rw c.single.ensures at c.union-set.ensures)
+          loop.invariant.2,
+    )
 
 pub returns : goal.returns
-returns c = let a = c.args in
+returns c =
+    let a = c.args in
     let done : c.loop-v.v ≡ a.next = omega arith in
     members_window a.n a.next (set_of c.loop-v.set) (omega arith) (omega arith) (rw done at c.loop-v.invariant.2)

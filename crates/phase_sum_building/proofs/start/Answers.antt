@@ -1,4 +1,4 @@
--- `phase_sum_building::start` meets its contract. The loop's invariant: the first q wires are inputs, none complemented.
+-- `phase_sum_building::start` meets its contract: each turn makes one more wire an input.
 -- Assumes nothing.
 use mathlib.Core.Path.{◌≡◌, refl, ◌∙◌}
 use Prim.Native.Nat.{zero-le}
@@ -17,11 +17,13 @@ use Rattle.phase_sum_building.proofs.start.Goals as goal
 
 pub loop-q-init : goal.loop-q-init
 unfolding from
-loop-q-init c = let a = c.args in
+loop-q-init c =
+    let a = c.args in
     (omega arith, refl, c.requires.0, refl, refl, level_places a.ws.now a.fs.now c.requires.1, refl, refl)
 
 pub loop-q-preserved : goal.loop-q-preserved
-loop-q-preserved c = let loop = c.loop-q in
+loop-q-preserved c =
+    let loop = c.loop-q in
     let inv = loop.invariant in
     rw (c.store.ensures, c.single.ensures) (
       omega arith,
@@ -36,7 +38,8 @@ loop-q-preserved c = let loop = c.loop-q in
 
 pub returns : goal.returns
 unfolding initial zip_terms
-returns c ss cs = let loop = c.loop-q in
+returns c ss cs =
+    let loop = c.loop-q in
     let inv = loop.invariant in
     let a = c.args in
     let all : loop.q ≡ length a.fs.now = omega (arith, inv.1, inv.0) in

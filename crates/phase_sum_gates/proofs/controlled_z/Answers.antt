@@ -11,7 +11,8 @@ pub put_product-requires : goal.put_product-requires
 put_product-requires c = unfold tally room_for in (omega arith, omega arith)
 
 pub returns : goal.returns
-returns c = let a = c.args in
+returns c =
+    let a = c.args in
     let phase = c.put_product in
     controlled_z_leaves a.run a.a a.b (lent a.ws.now a.fs.now a.sets.now a.coeffs.now) c.wire.result
     c.wire-2.result phase.result

@@ -17,7 +17,8 @@ pub put_product-phase-requires : goal.put_product-phase-requires
 put_product-phase-requires c = unfold tally room_for in (omega arith, omega arith)
 
 pub returns : goal.returns
-returns c = let a = c.args in
+returns c =
+    let a = c.args in
     let phase = c.put_product-phase in
     hadamard_leaves a.run a.q (lent a.ws.now a.fs.now a.sets.now a.coeffs.now) _ _ c.wire.result _ phase.result _
     c.requires.0.started

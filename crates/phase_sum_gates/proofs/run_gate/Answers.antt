@@ -8,30 +8,36 @@ use Rattle.phase_sum_types.proofs.Running.{kind_y, kind_h, kind_cz, bytes_within
 use Rattle.phase_sum_gates.proofs.run_gate.Goals as goal
 
 pub y_gate-requires : goal.y_gate-requires
-y_gate-requires c = let is_y = c.if-kind-eq-Y.true in
+y_gate-requires c =
+    let is_y = c.if-kind-eq-Y.true in
     let pre = c.requires in
     (rw kind_y at pre.1, pre.2)
 
 pub returns-then-kind-eq-Y : goal.returns-then-kind-eq-Y
-returns-then-kind-eq-Y c = let is_y = c.if-kind-eq-Y.true in
+returns-then-kind-eq-Y c =
+    let is_y = c.if-kind-eq-Y.true in
     rw kind_y c.y_gate.ensures
 
 pub hadamard-requires : goal.hadamard-requires
-hadamard-requires c = let is-h = c.if-kind-eq-H.true in
+hadamard-requires c =
+    let is-h = c.if-kind-eq-H.true in
     let pre = c.requires in
     (rw kind_h at pre.1, pre.2)
 
 pub returns-then-kind-eq-H : goal.returns-then-kind-eq-H
-returns-then-kind-eq-H c = let is-h = c.if-kind-eq-H.true in
+returns-then-kind-eq-H c =
+    let is-h = c.if-kind-eq-H.true in
     rw kind_h c.hadamard.ensures
 
 pub controlled_z-requires : goal.controlled_z-requires
-controlled_z-requires c = let is-cz = c.if-kind-eq-CZ.true in
+controlled_z-requires c =
+    let is-cz = c.if-kind-eq-CZ.true in
     let pre = c.requires in
     (rw kind_cz at pre.1, pre.2)
 
 pub returns-then-kind-eq-CZ : goal.returns-then-kind-eq-CZ
-returns-then-kind-eq-CZ c = let is-cz = c.if-kind-eq-CZ.true in
+returns-then-kind-eq-CZ c =
+    let is-cz = c.if-kind-eq-CZ.true in
     rw kind_cz c.controlled_z.ensures
 
 -- the kinds that the tests leave are those of the diagonal gates

@@ -11,7 +11,8 @@ pub put_phase-phase-requires : goal.put_phase-phase-requires
 put_phase-phase-requires c = unfold tally room_for in (omega arith, omega arith)
 
 pub returns : goal.returns
-returns c = let a = c.args in
+returns c =
+    let a = c.args in
     let phase = c.put_phase-phase in
     y_leaves a.run a.q (lent a.ws.now a.fs.now a.sets.now a.coeffs.now) _ c.wire.result phase.result
     c.add.result

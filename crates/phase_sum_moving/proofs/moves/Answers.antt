@@ -14,5 +14,6 @@ unfolding gate_of room_for
 returns-then-kind-eq-CX c a b = rw c.if-kind-eq-CX.true
 
 pub returns : goal.returns
-returns c a b = let k = c.args.kind in
+returns c a b =
+    let k = c.args.kind in
     above_cz k a b c.if-kind-eq-X.false c.if-kind-eq-CX.false

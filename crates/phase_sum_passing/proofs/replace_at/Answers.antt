@@ -22,7 +22,8 @@ unfolding replace_in ◌⊕◌
 replaced z u p h = rw (h, xor_falseˡ p.flipped)
 
 pub returns-then-holds_at : goal.returns-then-holds_at
-returns-then-holds_at c = let a = c.args in
+returns-then-holds_at c =
+    let a = c.args in
     let u = get_or (sets_in words_each a.sets.now) a.i 0 in
     let new = replaced a.z u (parity_of a.p) (sym c.holds_at.ensures ∙ c.if-holds_at.true) in record {
       constant = rw new c.with_flip.ensures;
@@ -38,7 +39,8 @@ returns-then-holds_at c = let a = c.args in
     }
 
 pub returns : goal.returns
-returns c = let a = c.args in
+returns c =
+    let a = c.args in
     let ss = sets_in words_each a.sets.now in
     let same = replace_in_absent a.z (parity_of a.p) (of (get_or ss a.i 0)) (sym c.holds_at.ensures ∙ c.if-holds_at.false) in
     rw same (record {

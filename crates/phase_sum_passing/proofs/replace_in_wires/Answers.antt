@@ -1,4 +1,4 @@
--- `phase_sum_passing::replace_in_wires` meets its contract. The loop's invariant: z is replaced in the first q wires, and the others are as they were. The measure is how many wires are left.
+-- `phase_sum_passing::replace_in_wires` meets its contract: each turn replaces z in one more wire.
 -- Assumes nothing.
 use mathlib.Core.Path.{sym, refl, ◌∙◌}
 use native.Mathlib.Omega.{arith}
@@ -9,12 +9,14 @@ use Rattle.phase_sum_types.proofs.Passes.{front_none, front_mapped, length_wires
 use Rattle.phase_sum_passing.proofs.replace_in_wires.Goals as goal
 
 pub loop-q-init : goal.loop-q-init
-loop-q-init c = let a = c.args in
+loop-q-init c =
+    let a = c.args in
     let level = level_places a.ws.now a.fs.now c.requires.1 in
     (omega arith, refl, refl, length_wires _ a.fs.now (sym level) ∙ level, front_none _)
 
 pub loop-q-preserved : goal.loop-q-preserved
-loop-q-preserved c = let a = c.args in
+loop-q-preserved c =
+    let a = c.args in
     let inv = c.loop-q.invariant in
     let kept = c.set_wire.auto in
     let here = c.loop-q-test.true in (

@@ -1,5 +1,4 @@
--- `phase_sum_passing::replace_unmerged` meets its contract. The loop's invariant: the constant is that of the first i terms,
--- these have been sent, and the others are as they were. The measure is how many terms are left.
+-- `phase_sum_passing::replace_unmerged` meets its contract: each turn sends one more term.
 -- Assumes nothing.
 use mathlib.Core.Path.{◌≡◌, refl, sym, ◌∙◌}
 use Prim.Native.Nat.{◌<◌}
@@ -23,7 +22,8 @@ loop-i-init c = (omega arith, refl, refl, λ k e. sym e, passed_none _ _ _)
 
 pub loop-i-preserved : goal.loop-i-preserved
 unfolding phase_term
-loop-i-preserved c = let a = c.args in
+loop-i-preserved c =
+    let a = c.args in
     let words = a.sets.now in
     let ss = sets_in words_each words in
     let cs = a.coeffs.now in
@@ -51,7 +51,8 @@ loop-i-preserved c = let a = c.args in
     )
 
 pub returns : goal.returns
-returns c = let a = c.args in
+returns c =
+    let a = c.args in
     let done : c.loop-i.i ≡ a.phase.count = omega arith in
     let inv = c.loop-i.invariant in record {
       constant = rw done at (inv.3 a.phase.constant (omega (arith, c.add-constant.ensures)));

@@ -1,5 +1,4 @@
--- `phase_sum_passing::take_out_unmerged` meets its contract. The loop's invariant: y is out of the first i sets, and the others
--- are as they were. The measure is how many sets are left.
+-- `phase_sum_passing::take_out_unmerged` meets its contract: each turn takes y out of one more set.
 -- Assumes nothing.
 use mathlib.Core.Path.{◌∙◌}
 use native.Mathlib.Omega.{arith}
@@ -9,7 +8,8 @@ use Rattle.phase_sum_types.proofs.Passes.{front_mapped}
 use Rattle.phase_sum_passing.proofs.take_out_unmerged.Goals as goal
 
 pub loop-i-preserved : goal.loop-i-preserved
-loop-i-preserved c = let a = c.args in
+loop-i-preserved c =
+    let a = c.args in
     let inv = c.loop-i.invariant in
     let removed = c.remove_at in (
       omega arith,

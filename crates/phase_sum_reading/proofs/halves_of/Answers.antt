@@ -1,5 +1,4 @@
--- `phase_sum_reading::halves_of` meets its contract. The loop's invariant: the sum mod 8 and the set are those of the first i
--- terms. The measure is how many terms are left.
+-- `phase_sum_reading::halves_of` meets its contract: each turn takes in the coefficient and the set of one more term.
 -- Assumes nothing.
 use mathlib.Core.Path.{refl}
 use native.Mathlib.Omega.{arith}
@@ -19,7 +18,8 @@ unfolding stepping.coeffs stepping.odd_halves zip_terms
 loop-i-init c = (omega arith, refl, c.empty-l.ensures)
 
 pub loop-i-preserved : goal.loop-i-preserved
-loop-i-preserved c = let a = c.args in
+loop-i-preserved c =
+    let a = c.args in
     let words = a.sets.now in
     let ss = sets_in words_each words in
     let cs = a.coeffs.now in

@@ -1,5 +1,4 @@
--- `phase_sum_reading::odd_both` meets its contract. The loop's invariant: the set is the exclusive or over the first t terms. The
--- measure is how many terms are left.
+-- `phase_sum_reading::odd_both` meets its contract: each turn takes in the set of one more term.
 -- Assumes nothing.
 use native.Mathlib.Omega.{arith}
 use lib.ListN.{get_or}
@@ -18,7 +17,8 @@ unfolding odd_both zip_terms
 loop-t-init c = (omega arith, c.empty-both.ensures)
 
 pub loop-t-preserved : goal.loop-t-preserved
-loop-t-preserved c = let a = c.args in
+loop-t-preserved c =
+    let a = c.args in
     let words = a.sets.now in
     let ss = sets_in words_each words in
     let cs = a.coeffs.now in

@@ -1,5 +1,4 @@
--- `phase_sum_reading::odd_mask` meets its contract. The loop's invariant: the mask holds the variables that are in terms of odd
--- coefficient among the first i. The measure is how many terms are left.
+-- `phase_sum_reading::odd_mask` meets its contract: each turn takes in the set of one more term.
 -- Assumes nothing.
 use mathlib.Core.Path.{sym}
 use native.Mathlib.Omega.{arith}
@@ -19,7 +18,8 @@ unfolding in_odd zip_terms
 loop-i-init c = (omega arith, λ v. rw c.empty-mask.ensures (bit_zero v))
 
 pub loop-i-preserved : goal.loop-i-preserved
-loop-i-preserved c = let a = c.args in
+loop-i-preserved c =
+    let a = c.args in
     let words = a.sets.now in
     let ss = sets_in words_each words in
     let cs = a.coeffs.now in

@@ -12,7 +12,8 @@ use Rattle.phase_sum_stepping.proofs.join_out.Goals as goal
 
 pub returns : goal.returns
 unfolding replace take_out
-returns c = let a = c.args in
+returns c =
+    let a = c.args in
     let stands = c.requires.2 in
     let taken = c.take_out_unmerged in
     let p = parity_of a.p in

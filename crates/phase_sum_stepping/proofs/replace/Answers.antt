@@ -10,7 +10,8 @@ use Rattle.phase_sum_stepping.proofs.replace.Goals as goal
 
 pub returns : goal.returns
 unfolding replace
-returns c = let a = c.args in
+returns c =
+    let a = c.args in
     let stands = c.requires.1 in
     let p = parity_of a.p in
     let l = lent a.ws.now a.fs.now a.sets.now a.coeffs.now in

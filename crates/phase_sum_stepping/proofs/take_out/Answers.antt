@@ -13,7 +13,8 @@ use Rattle.phase_sum_stepping.proofs.take_out.Goals as goal
 
 pub returns : goal.returns
 unfolding take_out
-returns c ws fs = let a = c.args in
+returns c ws fs =
+    let a = c.args in
     let pre = c.requires in
     let ss = sets_at a.sets.now in
     let cs = a.coeffs.now in

@@ -13,14 +13,16 @@ use Rattle.phase_sum_types.proofs.WireLaws.{stored-count}
 use Rattle.phase_sum_stepping.proofs.turn_out.Goals as goal
 
 pub canonical-requires : goal.canonical-requires
-canonical-requires c = let pre = c.requires in
+canonical-requires c =
+    let pre = c.requires in
     let long = c.take_out_unmerged.auto.sets in
     let count = stored-count (_ ∷ []) (all_inside _ (omega (arith, pre.1, pre.2, long))) (omega (arith, pre.2)) c.append-more.ensures in
     (omega arith, omega arith)
 
 pub returns : goal.returns
 unfolding turned take_out
-returns c ws fs = let a = c.args in
+returns c ws fs =
+    let a = c.args in
     let pre = c.requires in
     let phase = a.sum.phase in
     let l = slices ws fs (sets_at a.sets.now) a.coeffs.now in
