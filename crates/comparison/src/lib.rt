@@ -2,6 +2,7 @@
 // call is turned down". Every call takes any bytes and any workspaces, refuses by number what is bad, and then changes no byte that it was
 // lent. All that is public here is a call, an answer, or a limit.
 #![tactic(auto)]
+
 mod comparing;
 mod picking;
 
