@@ -10,7 +10,7 @@ use pair_input::{INPUT_SIZE, STREAM_SIZE, Source, find_source, print, read_argum
 use std::rt::{Env, Files};
 
 // The line for standard input.
-fn answer_stream<R: Input + Print + Eprint + Alloc>(rt: &R, program: &str) {
+fn answer_stream<R: Input + Print + Eprint + Alloc>(rt: &R, program: &[u8]) {
     let mut stream = [0u8; STREAM_SIZE];
     let mut line = [0u8; LINE_SIZE];
     let input = read_stream(rt, program, &mut stream);
@@ -23,7 +23,7 @@ fn answer_stream<R: Input + Print + Eprint + Alloc>(rt: &R, program: &str) {
 }
 
 // The line for the two files that the arguments name.
-fn answer_files<R: Env + Files + Print + Eprint + Alloc>(rt: &R, program: &str) {
+fn answer_files<R: Env + Files + Print + Eprint + Alloc>(rt: &R, program: &[u8]) {
     let mut first = [0u8; INPUT_SIZE];
     let mut second = [0u8; INPUT_SIZE];
     let mut line = [0u8; LINE_SIZE];
@@ -42,7 +42,7 @@ fn answer_files<R: Env + Files + Print + Eprint + Alloc>(rt: &R, program: &str) 
 }
 
 fn main(rt: HostRuntime) {
-    let program = "compare";
+    let program = b"compare";
     match find_source(&rt, program) {
         Source::Stream => answer_stream(&rt, program),
         Source::Files => answer_files(&rt, program),

@@ -5,7 +5,7 @@
 
 mod reading;
 
-use reading::fail;
+use reading::{fail, shown};
 pub use reading::{INPUT_SIZE, Input, STREAM_SIZE, read_argument, read_stream};
 use std::env::FillError;
 use std::rt::Env;
@@ -22,7 +22,8 @@ pub enum Source {
 }
 
 // A message that says how the program is called.
-fn tell_usage(rt: &impl Eprint, program: &str) {
+fn tell_usage(rt: &impl Eprint, program: &[u8]) {
+    let program = shown(program);
     let _ = eprintln!(rt; "usage: {program} [FIRST SECOND]");
 }
 
@@ -32,7 +33,7 @@ fn has_argument(rt: &impl Env, place: usize) -> bool {
 }
 
 // Where the two records of a program with this name are; a message where they are nowhere.
-pub fn find_source<R: Env + Eprint>(rt: &R, program: &str) -> Source {
+pub fn find_source<R: Env + Eprint>(rt: &R, program: &[u8]) -> Source {
     if !has_argument(rt, 1) {
         return Source::Stream;
     }
@@ -44,7 +45,7 @@ pub fn find_source<R: Env + Eprint>(rt: &R, program: &str) -> Source {
 }
 
 // A whole line on standard output in one write, or a message.
-pub fn print<R: Print + Eprint + Alloc>(rt: &R, program: &str, line: &[u8]) {
+pub fn print<R: Print + Eprint + Alloc>(rt: &R, program: &[u8], line: &[u8]) {
     if let Err(why) = rt.write_all(line) {
         fail(rt, program, "standard output", why);
     }

@@ -70,7 +70,7 @@ fn read_some<I: Read>(from: &mut I, buffer: &mut [u8], done: usize) -> Turn
 // Reads until the input ends, the buffer is full or a read fails; a read that a signal interrupts is done again. A message says what failed.
 pub fn read_all<R: Eprint + Alloc, I: Read>(
     rt: &R,
-    program: &str,
+    program: &[u8],
     what: &str,
     from: &mut I,
     buffer: &mut [u8],
@@ -107,8 +107,14 @@ pub fn read_all<R: Eprint + Alloc, I: Read>(
     }
 }
 
+// A program's name as text, as messages show it.
+pub fn shown(program: &[u8]) -> &str {
+    str::from_utf8(program).unwrap_or("?")
+}
+
 // A message on standard error: the program, what failed and why, without the error's number.
-pub fn fail<R: Eprint + Alloc>(rt: &R, program: &str, what: &str, why: Error) {
+pub fn fail<R: Eprint + Alloc>(rt: &R, program: &[u8], what: &str, why: Error) {
+    let program = shown(program);
     let _ = match why.to_string(rt.alloc()) {
         Ok(text) => {
             let words = text.split(BEFORE_NUMBER).next().unwrap_or("");
@@ -121,7 +127,7 @@ pub fn fail<R: Eprint + Alloc>(rt: &R, program: &str, what: &str, why: Error) {
 // The bytes of the file of a name; a message where it cannot be opened or read.
 fn read_file<R: Files + Eprint + Alloc>(
     rt: &R,
-    program: &str,
+    program: &[u8],
     name: &str,
     buffer: &mut [u8],
 ) -> Input
@@ -142,7 +148,7 @@ fn read_file<R: Files + Eprint + Alloc>(
 // The bytes of the file that an argument names; a message where that fails.
 fn read_named<R: Env + Files + Eprint + Alloc>(
     rt: &R,
-    program: &str,
+    program: &[u8],
     place: usize,
     buffer: &mut [u8],
 ) -> Input
@@ -167,7 +173,7 @@ fn read_named<R: Env + Files + Eprint + Alloc>(
 // The same, as far as it matters.
 pub fn read_argument<R: Env + Files + Eprint + Alloc>(
     rt: &R,
-    program: &str,
+    program: &[u8],
     place: usize,
     buffer: &mut [u8; INPUT_SIZE],
 ) -> Input
@@ -179,7 +185,7 @@ pub fn read_argument<R: Env + Files + Eprint + Alloc>(
 // Standard input, as far as it matters; a message where that fails.
 pub fn read_stream<R: io::Input + Eprint + Alloc>(
     rt: &R,
-    program: &str,
+    program: &[u8],
     stream: &mut [u8; STREAM_SIZE],
 ) -> Input
     ensures { UpTo stream_size result.size stream.new }
