@@ -54,7 +54,7 @@ BUILT = ("compare", "compare_small", "record_calls", "pair_calls", "phase_sum_ve
 WELL = f"echo 'rt: ok; handles allowed: none; must-fail edits: 3 refused; all done'; echo '{COUNT}'"
 
 
-def run_gate(folder, ci, failing=None, built=BUILT, slow=None, end="sys.exit(1)"):
+def run_gate(folder, ci, failing=None, built=BUILT, jobs="2", slow=None, end="sys.exit(1)"):
     """(status, lines) of the gate where rt ci is this piece of shell and builds these programs, one test may fail and one be slow; each prints a
     line."""
     shutil.rmtree(os.path.join(folder, "target"), ignore_errors=True)
@@ -67,7 +67,7 @@ def run_gate(folder, ci, failing=None, built=BUILT, slow=None, end="sys.exit(1)"
         last = end if test == failing else ""
         put(folder, f"tests/{name}", f"import os, sys, time\n{pause}print('ran', {name!r}, *sys.argv[1:], flush=True)\n{last}\n")
     put(folder, "bin/rt", f'#!/bin/sh\n[ "$*" = version ] && exec echo kit\n[ "$*" = ci ] || exit 9\n{ci}\n', 0o755)
-    env = dict(os.environ, PATH=os.path.join(folder, "bin") + ":" + os.environ["PATH"])
+    env = dict(os.environ, PATH=os.path.join(folder, "bin") + ":" + os.environ["PATH"], RT_JOBS=jobs)
     done = subprocess.run([os.path.join(folder, ".ci/run")], env=env, timeout=SECONDS, **PIPES)
     return done.returncode, done.stdout.decode().splitlines()
 
@@ -82,6 +82,9 @@ def try_gate(folder):
     ok = "rt: ok; handles allowed: none; must-fail edits: 3 refused; all done"
     got = run_gate(folder, f"echo one; echo two; {WELL}")
     trial("gate, all pass", got == (0, ["one", "two", ok, *(f"ran {test}" for test in TESTS), COUNT]), got)
+    for jobs in ("3", ""):
+        _, lines = run_gate(folder, f"echo \"jobs $RT_JOBS\"; {WELL}", jobs=jobs)
+        trial(f"gate, RT_JOBS '{jobs}' is handed on", lines[:1] == [f"jobs {jobs}"], lines)
     for name in BUILT:
         with open(os.path.join(folder, "target", "bin", name), encoding="utf-8") as file:
             trial(f"gate, the program {name} is taken over", file.read() == name)
