@@ -341,6 +341,7 @@ def program_failures(room, door):
         ("name of 4,095 bytes", ["a" * 4095, good], "name too long"),
         ("name of 4,096 bytes", ["a" * 4096, good], "name too long"),
         ("name of 5,000 bytes", [good, "a" * 5000], "name too long"),
+        ("a name that is not UTF-8", [room.file(NOTHING, "\udcff"), good], "a file's name: it is not UTF-8"),
         ("a read that fails, first", ["/proc/self/mem", good], "/proc/self/mem: Input/output error"),
         ("a read that fails, second", [good, "/proc/self/mem"], "/proc/self/mem: Input/output error"),
     ):
@@ -462,6 +463,11 @@ def script_names(room, door):
         check(f"script, by {os.path.basename(link)}", run([link, "a  b", "./-h"], cwd=spaced), want)
     other.file(EXAMPLE, "a\nb\n")
     check("script, a name with line ends", run([door.script, "a\nb\n", "./-h"], cwd=spaced), want)
+    other.file(EXAMPLE, "\udcff")
+    other.file(NOTHING, "\udcff\u00e4")
+    check("script, names that are not UTF-8", run([door.script, "\udcff", "./\udcff\u00e4"], cwd=spaced), want)
+    other.file(EXAMPLE, "\u00e4")
+    check("script, a name of letters beyond ASCII", run([door.script, "\u00e4", "./-h"], cwd=spaced), want)
     check("script, /dev/stdin as a name", run([door.script, "/dev/stdin", "./-h"], cwd=spaced, input=EXAMPLE), want)
     check("script, names around --", run([door.script, "a  b", "--", "-h"], cwd=spaced), want)
     check("script, a path of 4,095 bytes", run([door.script, "/" * (4095 - len(spaced) - 5) + spaced + "/a  b", "./-h"], cwd=spaced), want)
