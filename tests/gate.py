@@ -566,9 +566,9 @@ def try_documents(folder):
     for label, name, old, new, word in (
         ("an edit that is not there", "docs/DEMANDS.md", "amplitude/h_sign", "amplitude/h_sing", "h_sing"),
         ("an edit not cited", "docs/DEMANDS.md", "amplitude/h_sign, ", "", "amplitude/h_sign"),
-        ("a theorem that is not there", "docs/DEMANDS.md", "`equal-is-right`", "`equal-is-rigth`", "equal-is-rigth"),
+        ("a theorem that is not there", "docs/DEMANDS.md", "`equal_is_right`", "`equal_is_rigth`", "equal_is_rigth"),
         ("a clause that is not there", "README.md", "(`clifford`)", "(`cliford`)", "cliford"),
-        ("a law of an operator that is not there", "docs/DEMANDS.md", "`*ω-assoc`", "`*ω-asoc`", "*ω-asoc"),
+        ("a law of an operator that is not there", "docs/DEMANDS.md", "`*ω_assoc`", "`*ω_asoc`", "*ω_asoc"),
         ("a crate not named", "README.md", "`record_report`", "`record_reports`", "record_report"),
         ("a file that is not there", "README.md", "`docs/DECISIONS.md`", "`docs/DECISION.md`", "docs/DECISION.md"),
         ("a script that is not there", "README.md", "`./compare_small`", "`./compare_smal`", "compare_smal"),
