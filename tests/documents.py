@@ -26,7 +26,8 @@ def text(path):
 
 
 def found(pattern):
-    return glob.glob(os.path.join(ROOT, pattern), recursive=True)
+    """The files of a pattern, but for what the kit keeps in each out/."""
+    return [path for path in glob.glob(os.path.join(ROOT, pattern), recursive=True) if "/out/" not in path]
 
 
 def words_of_the_crates():
