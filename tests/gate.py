@@ -113,6 +113,8 @@ def try_gate(folder):
         ("rt ci ends well with nothing", ":", 1),
         ("rt ci ends well without a count", f"{WELL}; echo more", 1),
         ("rt ci is ended", f"{WELL}; kill -9 $$", 137),
+        ("sources that change meanwhile", f"echo '# changed' >>crates.txt; {WELL}", 1),
+        ("a source that comes meanwhile", f"mkdir -p crates/a/src; echo >crates/a/src/lib.rt; {WELL}", 1),
     ):
         status, lines = run_gate(folder, ci)
         ran = [line for line in lines if line.startswith("ran ")]
