@@ -102,7 +102,7 @@ def refusal_faults():
         for cases, numbers in re.findall(r"^\| (`[A-Z].*?) \| ([\d, ]+) \|", text("README.md"), flags=re.M)
         for pair in itertools.zip_longest(re.findall(r"`([A-Z]\w+)`", cases), numbers.split(", "))
     ]
-    code = "".join(text(f"crates/{crate}/src/lib.rt") for crate in ("record_bytes", "comparison_types", "joining_types"))
+    code = "".join(text(f"crates/{crate}/src/lib.rt") for crate in ("record_format", "comparison_types", "joining_types"))
     cases = set(re.findall(r"Refusal::(\w+)(?: \{ gate: _ \})? => (\d+),", code))
     return [] if sorted(told) == sorted(cases) else [f"README.md has other refusals than the code: {set(told) ^ cases}"]
 

@@ -4,138 +4,83 @@
 // inverses of S and T, c for CX, k for CZ, w for SWAP.
 #![tactic(auto)]
 
+ghost use Rattle.std.specs.Prelude.{◌≡◌, ◌≤◌, ◌↔◌, ◌∷◌, [], IsNone, IfSome, IfOk, MatchOption, vec_len};
+
+mod gates;
 pub mod refusals;
 
-use calls_text::{Bytes, NO_DIGIT, byte, digit};
-use record_bytes::NO_QUBIT;
-use record_format::gate;
-use records::{Written, add, start};
-use std::num::wrapping_add_usize;
+use calls_text::error::RowError;
+use calls_text::hex;
+use calls_text::numbers::number;
+use gates::gate;
+use records::{add, start};
+use std::alloc::Global;
 
 // The bytes that a row lends at most.
 pub const MOST_BYTES: usize = 2048;
 
-// No kind of gate.
-const NO_KIND: u8 = 255;
+// The record of a list, at the front of so many bytes. None: a gate that is none, or that start or add refuses.
+fn build(n: &str, gates: &str, buffer: &mut [u8]) -> Option<()> {
+    start(buffer, number(n)?).ok()?;
+    for text in gates.split_terminator(' ') {
+        let [kind, a, b] = <[u8; 3]>::from(gate(text.as_bytes())?);
+        add(buffer, kind, a, b).ok()?;
+    }
+    Some(())
+}
 
-// The kind of a letter.
-fn kind_of(letter: u8) -> u8 {
-    match letter {
-        b'x' => gate::X,
-        b'y' => gate::Y,
-        b'z' => gate::Z,
-        b's' => gate::S,
-        b'r' => gate::S_INVERSE,
-        b't' => gate::T,
-        b'u' => gate::T_INVERSE,
-        b'h' => gate::H,
-        b'c' => gate::CX,
-        b'k' => gate::CZ,
-        b'w' => gate::SWAP,
-        _ => NO_KIND,
+// The record of a list, at the front of a buffer that is lent whole.
+fn record(alloc: Global, n: &str, gates: &str) -> Result<Vec<u8>, RowError>
+    ensures { IfOk result (λ bytes. vec_len bytes ≤ MOST_BYTES) }
+{
+    let mut buffer = vec![in alloc; 0xa5; MOST_BYTES]?;
+    build(n, gates, buffer.as_mut_slice()).ok_or(RowError::Bad)?;
+    Ok(buffer)
+}
+
+// The bytes of a row's part.
+pub fn bytes_of(alloc: Global, text: &str) -> Result<Vec<u8>, RowError>
+    ensures { IfOk result (λ bytes. vec_len bytes ≤ MOST_BYTES) }
+{
+    match text.split_once(':') {
+        Some((n, gates)) => record(alloc, n, gates),
+        None => hex::bytes(alloc, text, MOST_BYTES),
     }
 }
 
-// The bytes of text of a gate.
-fn gate_size(kind: u8) -> usize {
-    if kind > gate::H { 3 } else { 2 }
+// The lists of a pair.
+#[derive(Drop)]
+pub struct Lists {
+    first: Vec<u8>,
+    // None: the first is given twice.
+    second: Option<Vec<u8>>,
 }
 
-// The second qubit of the gate at a place.
-fn second_of(text: &[u8], at: usize, kind: u8) -> u8 {
-    if kind > gate::H {
-        digit(byte(text, wrapping_add_usize(at, 2)))
-    } else {
-        NO_QUBIT
+impl Lists {
+    // The lists of a row's two parts; the first twice where the second part is `=`.
+    pub fn new(alloc: Global, first: &str, second: &str) -> Result<Lists, RowError>
+        ensures twice { IfOk result (λ l. IsNone l.second ↔ (second.now ≡ 61 ∷ [])) }
+        ensures first { IfOk result (λ l. vec_len l.first ≤ MOST_BYTES) }
+        ensures second { IfOk result (λ l. IfSome l.second (λ bytes. vec_len bytes ≤ MOST_BYTES)) }
+    {
+        Ok(Lists {
+            first: bytes_of(alloc, first)?,
+            second: match second {
+                "=" => None,
+                _ => Some(bytes_of(alloc, second)?),
+            },
+        })
     }
-}
 
-// Was a gate added?
-fn is_added(answer: Written) -> bool {
-    match answer {
-        Written::Length(_) => true,
-        Written::Refused(_) => false,
+    pub fn first(&self) -> &[u8]
+        ensures { result.now ≡ self.now.first.items }
+    {
+        self.first.as_slice()
     }
-}
 
-// The gate at a place of a text, added to the record in the buffer; where the next one begins, or 0 where this is none or is refused.
-fn add_gate(text: &[u8], at: usize, buffer: &mut [u8]) -> usize {
-    let kind = kind_of(byte(text, at));
-    if kind == NO_KIND {
-        return 0;
-    }
-    let a = digit(byte(text, wrapping_add_usize(at, 1)));
-    if a == NO_DIGIT {
-        return 0;
-    }
-    let b = second_of(text, at, kind);
-    let end = wrapping_add_usize(at, gate_size(kind));
-    if byte(text, end) != b' ' {
-        return 0;
-    }
-    if !is_added(add(buffer, kind, a, b)) {
-        return 0;
-    }
-    wrapping_add_usize(end, 1)
-}
-
-// The gates of a text, added to the record in the buffer. Whether every one was.
-fn add_gates(text: &[u8], buffer: &mut [u8]) -> bool {
-    let mut at = 0;
-    while at < text.len() {
-        let next = add_gate(text, at, buffer);
-        if next <= at {
-            return false;
-        }
-        at = next;
-    }
-    true
-}
-
-// The record of a list, at the front of the buffer, which is lent whole. Bad: a gate that is none, or that start or add refuses.
-fn record(text: &[u8], buffer: &mut [u8]) -> Bytes {
-    let n = calls_text::part(text, b':', 0);
-    if !calls_text::are_numbers(n, 1) {
-        return Bytes::Bad;
-    }
-    if !is_added(start(buffer, calls_text::number(n, 0))) {
-        return Bytes::Bad;
-    }
-    if !add_gates(calls_text::part(text, b':', 1), buffer) {
-        return Bytes::Bad;
-    }
-    Bytes::Count(buffer.len())
-}
-
-// The bytes of a row's part, at the front of the buffer: how many are lent.
-pub fn bytes_of(text: &[u8], buffer: &mut [u8]) -> Bytes {
-    if calls_text::parts(text, b':') == 2 {
-        return record(text, buffer);
-    }
-    calls_text::from_hex(text, buffer)
-}
-
-// The lists of a pair, at the fronts of two buffers: how many bytes of each are lent, or of the first, which is given twice.
-#[derive(Clone, Copy)]
-pub enum Lists {
-    Two { first: usize, second: usize },
-    Twice(usize),
-    Bad,
-}
-
-// The lists of a row's two parts; the first slice twice where the second part is `=`.
-pub fn lists_of(first: &[u8], second: &[u8], a: &mut [u8], b: &mut [u8]) -> Lists {
-    let Bytes::Count(size) = bytes_of(first, a) else {
-        return Lists::Bad;
-    };
-    if second == b"=".as_slice() {
-        return Lists::Twice(size);
-    }
-    let Bytes::Count(other) = bytes_of(second, b) else {
-        return Lists::Bad;
-    };
-    Lists::Two {
-        first: size,
-        second: other,
+    pub fn second(&self) -> &[u8]
+        ensures { MatchOption self.now.second (result.now ≡ self.now.first.items) (λ bytes. result.now ≡ bytes.items) }
+    {
+        self.second.as_ref().unwrap_or(&self.first).as_slice()
     }
 }

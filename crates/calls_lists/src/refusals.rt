@@ -1,33 +1,61 @@
 // What a row prints of a refusal: the number and, where it is about a gate, that gate's index.
-use calls_text::print;
-use records::{Refusal, number};
-use std::io;
+use records::Refusal;
 use std::io::Write;
-
-// ` gate` and the index.
-fn show_index(out: &mut impl Write, index: usize) -> io::Result<()> {
-    print::text(out, b" gate")?;
-    print::number(out, index)
-}
+use std::{fmt, io};
 
 // The gate that a refusal is about, if it is about one.
-fn show_gate(out: &mut impl Write, r: Refusal) -> io::Result<()> {
+fn gate_of(r: Refusal) -> Option<usize> {
     match r {
-        Refusal::UnknownKind { gate } => show_index(out, gate),
-        Refusal::SpareByte { gate } => show_index(out, gate),
-        Refusal::QubitRange { gate } => show_index(out, gate),
-        _ => Ok(()),
+        Refusal::UnknownKind { gate }
+        | Refusal::SpareByte { gate }
+        | Refusal::QubitRange { gate } => Some(gate),
+        _ => None,
     }
 }
 
-// `refused`, the number, and the gate.
+// ` gate` and its index, where a refusal is about a gate.
+fn show_gate(out: &mut impl Write, r: Refusal) -> io::Result<()> {
+    match gate_of(r) {
+        Some(gate) => write!(out, " gate {gate}"),
+        None => Ok(()),
+    }
+}
+
+// The refusal of a list.
 pub fn show(out: &mut impl Write, r: Refusal) -> io::Result<()> {
-    print::refused(out, number(r))?;
+    let number = u8::from(r);
+    write!(out, "refused {number}")?;
     show_gate(out, r)
 }
 
-// Which list of a pair it is that is refused, as ` first`, and the gate.
-pub fn show_in(out: &mut impl Write, list: &[u8], r: Refusal) -> io::Result<()> {
-    print::text(out, list)?;
-    show_gate(out, r)
+// Which list of a pair is refused.
+#[derive(Clone, Copy)]
+pub enum Which {
+    First,
+    Second,
+}
+
+impl fmt::Display for Which {
+    fn fmt<W: fmt::Write>(&self, f: &mut fmt::Formatter<W>) -> fmt::Result {
+        f.write_str(match self {
+            Which::First => "first",
+            Which::Second => "second",
+        })
+    }
+}
+
+// The refusal of a pair, with the list that is refused, if it is one of them.
+pub fn show_of_pair(
+    out: &mut impl Write,
+    number: u8,
+    list: Option<(Which, Refusal)>,
+) -> io::Result<()> {
+    write!(out, "refused {number}")?;
+    match list {
+        Some((which, r)) => {
+            write!(out, " {which}")?;
+            show_gate(out, r)
+        }
+        None => Ok(()),
+    }
 }

@@ -4,48 +4,14 @@
 // `compare_bytes`.
 #![tactic(auto)]
 
-use compare_bytes::{write_pair, write_stream};
-use line_bytes::LINE_SIZE;
-use pair_input::{INPUT_SIZE, STREAM_SIZE, Source, find_source, print, read_argument, read_stream};
-use std::rt::{Env, Files};
+use compare_bytes::PathSums;
+use pair_input::Program;
 
-// The line for standard input.
-fn answer_stream<R: Input + Print + Eprint + Alloc>(rt: &R, program: &[u8]) {
-    let mut stream = [0u8; STREAM_SIZE];
-    let mut line = [0u8; LINE_SIZE];
-    let input = read_stream(rt, program, &mut stream);
-    if input.failed {
-        return;
-    }
-    let size = input.size;
-    let end = write_stream(&stream[..size], &mut line);
-    print(rt, program, &line[..end]);
-}
-
-// The line for the two files that the arguments name.
-fn answer_files<R: Env + Files + Print + Eprint + Alloc>(rt: &R, program: &[u8]) {
-    let mut first = [0u8; INPUT_SIZE];
-    let mut second = [0u8; INPUT_SIZE];
-    let mut line = [0u8; LINE_SIZE];
-    let one = read_argument(rt, program, 1, &mut first);
-    if one.failed {
-        return;
-    }
-    let two = read_argument(rt, program, 2, &mut second);
-    if two.failed {
-        return;
-    }
-    let size = one.size;
-    let other = two.size;
-    let end = write_pair(&first[..size], &second[..other], &mut line);
-    print(rt, program, &line[..end]);
-}
-
+// Stays: a program has a main of its own, which names what it runs.
 fn main(rt: HostRuntime) {
-    let program = b"compare";
-    match find_source(&rt, program) {
-        Source::Stream => answer_stream(&rt, program),
-        Source::Files => answer_files(&rt, program),
-        Source::Nowhere => {}
-    }
+    let program = Program {
+        rt: &rt,
+        name: b"compare",
+    };
+    program.run::<PathSums>();
 }

@@ -1,6 +1,7 @@
 -- Worked cases of what the program prints, by computation.
 -- Assumes nothing.
 use mathlib.Core.Path.{◌≡◌, refl}
+use Rattle.std.specs.Prelude.{codes}
 use Prim.Native.Nat.{ℕ}
 use mathlib.Core.Bool.{xor}
 use mathlib.Core.List.{List, [], ◌∷◌, ◌++◌}
@@ -18,7 +19,7 @@ use Rattle.phase_sum_meaning.specs.Building.{input, initial, set_wire, with_phas
 use Rattle.phase_sum_meaning.specs.Stepping.{replace, coeffs, out_of, odd_halves, take_out, turned, kind_of}
 use Rattle.comparison_meaning.specs.Reduction.{add_pin, add_sum, add_turn, add_join, pin_from, step_with, reduce_from, reduce_end}
 use Rattle.comparison_meaning.specs.Verdict.{weight, blocked_input, searched, judge, compare}
-use Rattle.line_bytes.specs.Line.{digits, fields, refused_line}
+use Rattle.line_bytes.specs.Line.{digits, refused_line}
 use Rattle.compare_bytes.specs.Lines.{pair_line, stream_line}
 
 -- document 01's example: six gates, S H S H S H, and a second record without gates
@@ -27,11 +28,9 @@ example =
     0x51 ∷ 0x43 ∷ 0x01 ∷ 0x06 ∷ 0x00 ∷ 0x03 ∷ 0x00 ∷ 0xFF ∷ 0x07 ∷ 0x00 ∷ 0xFF ∷ 0x03 ∷ 0x00 ∷ 0xFF ∷ 0x07 ∷ 0x00 ∷ 0xFF ∷ 0x03 ∷ 0x00 ∷ 0xFF
     ∷ 0x07 ∷ 0x00 ∷ 0xFF ∷ 0x51 ∷ 0x43 ∷ 0x01 ∷ 0x00 ∷ 0x00 ∷ []
 
--- it prints `turned 7 0 1 1 1 0 0` and a newline
-pub example_printed :
-    stream_line example
-    ≡ 116 ∷ 117 ∷ 114 ∷ 110 ∷ 101 ∷ 100 ∷ 32 ∷ 55 ∷ 32 ∷ 48 ∷ 32 ∷ 49 ∷ 32 ∷ 49 ∷ 32 ∷ 49 ∷ 32 ∷ 48 ∷ 32 ∷ 48 ∷ 10 ∷ []
-unfolding pair_line digits fields first gate_of raws all_gate_rows record_rows tally
+-- what it prints
+pub example_printed : stream_line example ≡ codes "turned 7 0 1 1 1 0 0\n"
+unfolding pair_line digits first gate_of raws all_gate_rows record_rows tally
     xor inverse_kind inverse_gate inverse_list bit ◌△◌ xor_up_to parity_up_to parity first_such without from ◌⊕◌ complement rest replace_in
     sum_at phase_at keep merge add_term add_constant add_phase rebuild in_odd input initial set_wire with_phase hadamard_by gate_by gates_from build
     replace coeffs out_of odd_halves take_out turned kind_of add_pin add_sum add_turn add_join pin_from step_with reduce_from

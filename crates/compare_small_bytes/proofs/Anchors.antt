@@ -1,6 +1,7 @@
 -- Worked cases of what the program prints, by computation.
 -- Assumes nothing.
 use mathlib.Core.Path.{◌≡◌, refl}
+use Rattle.std.specs.Prelude.{codes}
 use Prim.Native.Nat.{ℕ}
 use mathlib.Core.Bool.{xor}
 use mathlib.Core.List.{List, [], ◌∷◌, ◌++◌}
@@ -14,20 +15,18 @@ use Rattle.amplitude.specs.Matrix.{matrix, entry, times}
 use Rattle.amplitude.specs.Circuit.{basis, apply, run, column, tally}
 use Rattle.amplitude.specs.Testing.{eq_ℤ, eqω, below, carries_state}
 use Rattle.dense_meaning.specs.Columns.{some_of, first_below}
-use Rattle.line_bytes.specs.Line.{digits, fields, refused_line}
+use Rattle.line_bytes.specs.Line.{digits, refused_line}
 use Rattle.compare_small_bytes.specs.Lines.{pair_line, stream_line}
 
 -- a stream of the record of these gates on one qubit and of a record without gates
 abbrev against_nothing : List Gate → List ℕ
 against_nothing gs = encode 1 gs ++ encode 1 []
 
--- S H S H S H: `turned 7 0` and a newline; H T H, which document 01's steps leave undecided: `different 0 0` and a newline
+-- S H S H S H; and H T H, which document 01's steps leave undecided
 pub verdicts_printed :
-    (stream_line (against_nothing (one S 0 ∷ one H 0 ∷ one S 0 ∷ one H 0 ∷ one S 0 ∷ one H 0 ∷ []))
-    ≡ 116 ∷ 117 ∷ 114 ∷ 110 ∷ 101 ∷ 100 ∷ 32 ∷ 55 ∷ 32 ∷ 48 ∷ 10 ∷ [])
-    × (stream_line (against_nothing (one H 0 ∷ one T 0 ∷ one H 0 ∷ []))
-    ≡ 100 ∷ 105 ∷ 102 ∷ 102 ∷ 101 ∷ 114 ∷ 101 ∷ 110 ∷ 116 ∷ 32 ∷ 48 ∷ 32 ∷ 48 ∷ 10 ∷ [])
-unfolding pair_line digits fields first gate_of raws all_gate_rows record_rows tally encode body_bytes gate_bytes one_qubit_kind
+    (stream_line (against_nothing (one S 0 ∷ one H 0 ∷ one S 0 ∷ one H 0 ∷ one S 0 ∷ one H 0 ∷ [])) ≡ codes "turned 7 0\n")
+    × (stream_line (against_nothing (one H 0 ∷ one T 0 ∷ one H 0 ∷ [])) ≡ codes "different 0 0\n")
+unfolding pair_line digits first gate_of raws all_gate_rows record_rows tally encode body_bytes gate_bytes one_qubit_kind
     eq_ℤ eqω below carries_state some_of first_below whole 0ω 1ω ◌+ω◌ neg mulω mul√2 ω^ √2^ bit put matrix entry times basis apply run column xor
 verdicts_printed = (refl, refl)
 

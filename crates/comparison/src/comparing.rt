@@ -1,8 +1,9 @@
 // The comparison: the checks on the pair, then building, pinning, reducing and the verdict.
-ghost use Rattle.std.specs.Prelude.{◌≡◌, length, replicate};
+// Stays: licensees lend two plain slices, so sets and coefficients are two parameters; `Phase` of phase_sum_types says why they stay so.
+ghost use Rattle.std.specs.Prelude.{◌≡◌, length, replicate, IfOk};
 ghost use Rattle.record_format.specs.Reading.{gates_in};
 ghost use Rattle.phase_sum_meaning.specs.Room.{places, set_words};
-ghost use Rattle.phase_sum_types.specs.Workspace.{sets_at, Level, Levelled, lent, Sized};
+ghost use Rattle.phase_sum_types.specs.Workspace.{sets_at, Level, lent, Sized};
 ghost use Rattle.phase_sum_types.specs.Unmerged.{Buildable};
 ghost use Rattle.comparison_meaning.specs.Verdict.{compare};
 ghost use Rattle.comparison_types.specs.Call.{result_of, said_of, comparison, left_by};
@@ -13,48 +14,42 @@ use comparison_checking::{PLACES, SET_WORDS, check_call};
 use comparison_judging::judge;
 use comparison_pinning::pin;
 use comparison_reducing::reduce;
-use comparison_types::{Answer, Comparison, End, Outcome, PairCheck};
+use comparison_types::{Compared, End, Outcome, Pair, Refusal};
 use phase_sum_building::build;
+use phase_sum_terms::reading::PhaseTerms;
 use phase_sum_terms::terms::clear;
+use phase_sum_terms::wires::Wires;
 use phase_sum_types::WORDS_EACH;
 use record_reading::gate_bytes;
 
 // Reducing what pinning left.
-fn reduce_end(
-    pinned: End,
-    ws: &mut [u64],
-    fs: &mut [bool],
-    sets: &mut [u64],
-    coeffs: &mut [u8],
-) -> End
-    requires { CountedTo 0 pinned.counts × Sized pinned.sum (lent ws.old fs.old sets.old coeffs.old) × Levelled ws.old fs.old sets.old coeffs.old }
-    ensures { ReducesEnd pinned result (lent ws.old fs.old sets.old coeffs.old) (lent ws.new fs.new sets.new coeffs.new) }
+fn reduce_end(pinned: End, wires: &mut Wires, sets: &mut [u64], coeffs: &mut [u8]) -> End
+    requires { CountedTo 0 pinned.reached.counts × Sized pinned.reached.sum (lent wires.old sets.old coeffs.old) × Level sets.old coeffs.old }
+    ensures { ReducesEnd pinned result (lent wires.old sets.old coeffs.old) (lent wires.new sets.new coeffs.new) }
 {
-    if pinned.blocked {
-        return pinned;
+    match pinned.blocked {
+        Some(_) => pinned,
+        None => reduce(pinned.reached, wires, sets, coeffs),
     }
-    let sum = pinned.sum;
-    let counts = pinned.counts;
-    reduce(sum, counts, ws, fs, sets, coeffs)
 }
 
-// The comparison of two lists of gates, by their bytes, on as many qubits as there are wires. The slices keep what the reduction left.
+// The comparison of two lists of gates, by their bytes, on as many qubits as there are wires. The wires and the slices keep what the reduction left.
 fn decide_in(
     first: &[u8],
     second: &[u8],
-    ws: &mut [u64],
-    fs: &mut [bool],
+    wires: &mut Wires,
     sets: &mut [u64],
     coeffs: &mut [u8],
 ) -> Outcome
-    requires { Buildable (length fs.old) first.now second.now (sets_at sets.old) coeffs.old × Levelled ws.old fs.old sets.old coeffs.old }
-    ensures { result_of result ≡ compare 0 (length fs.old) (gates_in first.now) (gates_in second.now) }
+    requires { Buildable (length wires.old) first.now second.now (sets_at sets.old) coeffs.old × Level sets.old coeffs.old }
+    ensures { result_of result ≡ compare 0 (length wires.old) (gates_in first.now) (gates_in second.now) }
 {
-    let n = fs.len();
-    let sum = build(first, second, ws, fs, sets, coeffs);
-    let pinned = pin(sum, ws, fs, sets, coeffs);
-    let end = reduce_end(pinned, ws, fs, sets, coeffs);
-    judge(end, n, sets, coeffs)
+    let n = wires.len();
+    let sum = build(first, second, wires, sets, coeffs);
+    let pinned = pin(sum, wires, sets, coeffs);
+    let end = reduce_end(pinned, wires, sets, coeffs);
+    let terms = PhaseTerms::new(sets, coeffs, end.reached.sum.phase);
+    judge(end, n, &terms)
 }
 
 // The comparison of two lists of gates on n qubits, by their bytes, in the places that are lent. All of them are zero afterwards.
@@ -63,38 +58,45 @@ fn decide(n: usize, first: &[u8], second: &[u8], sets: &mut [u64], coeffs: &mut 
     ensures steps { result_of result ≡ compare 0 n (gates_in first.now) (gates_in second.now) }
     ensures zero { (sets.new ≡ replicate (length sets.old) 0) × (coeffs.new ≡ replicate (length coeffs.old) 0) }
 {
-    let mut ws = [0u64; WORDS_EACH * 16];
-    let mut fs = [false; 16];
+    let mut wire_sets = [0u64; WORDS_EACH * 16];
+    let mut wire_flips = [false; 16];
     let words = WORDS_EACH * n;
-    let outcome = decide_in(first, second, &mut ws[..words], &mut fs[..n], sets, coeffs);
+    let mut wires = Wires::new(&mut wire_sets[..words], &mut wire_flips[..n]);
+    let outcome = decide_in(first, second, &mut wires, sets, coeffs);
     clear(sets, coeffs);
     outcome
 }
 
 // Two lists compared, each read once: the outcome with the gates of both lists, or why the pair is refused. Only the places that the
 // comparison may use are lent on.
-pub fn compare_read(first: &[u8], second: &[u8], sets: &mut [u64], coeffs: &mut [u8]) -> Comparison
+pub fn compare_read(
+    first: &[u8],
+    second: &[u8],
+    sets: &mut [u64],
+    coeffs: &mut [u8],
+) -> Result<Compared, Refusal>
     ensures steps { said_of (answer_of result) ≡ comparison first.now second.now (length sets.old) (length coeffs.old) }
     ensures kept { (sets.new ≡ left_by set_words (said_of (answer_of result)) sets.old) × (coeffs.new ≡ left_by places (said_of (answer_of result)) coeffs.old) }
-    ensures found { ComparedRead result first.now second.now }
+    ensures found { IfOk result (λ c. ComparedRead first.now second.now c) }
 {
-    match check_call(first, second, sets.len(), coeffs.len()) {
-        PairCheck::Refused(refusal) => Comparison::Refused(refusal),
-        PairCheck::Good { n, g, h } => {
-            let outcome = decide(
-                n,
-                gate_bytes(first, g),
-                gate_bytes(second, h),
-                &mut sets[..SET_WORDS],
-                &mut coeffs[..PLACES],
-            );
-            Comparison::Done { outcome, g, h }
-        }
-    }
+    let Pair { n, g, h } = check_call(first, second, sets.len(), coeffs.len())?;
+    let outcome = decide(
+        n,
+        gate_bytes(first, g),
+        gate_bytes(second, h),
+        &mut sets[..SET_WORDS],
+        &mut coeffs[..PLACES],
+    );
+    Ok(Compared { outcome, g, h })
 }
 
 // Two lists compared: the verdict with its inputs and counts, or why the pair is refused.
-pub fn compare(first: &[u8], second: &[u8], sets: &mut [u64], coeffs: &mut [u8]) -> Answer
+pub fn compare(
+    first: &[u8],
+    second: &[u8],
+    sets: &mut [u64],
+    coeffs: &mut [u8],
+) -> Result<Outcome, Refusal>
     ensures steps { said_of result ≡ comparison first.now second.now (length sets.old) (length coeffs.old) }
     ensures kept { (sets.new ≡ left_by set_words (said_of result) sets.old) × (coeffs.new ≡ left_by places (said_of result) coeffs.old) }
     ensures sound { Sound first.now second.now result }
@@ -103,12 +105,5 @@ pub fn compare(first: &[u8], second: &[u8], sets: &mut [u64], coeffs: &mut [u8])
     ensures clifford { Clifford first.now second.now result }
     ensures counts { CountsUp first.now second.now result }
 {
-    match compare_read(first, second, sets, coeffs) {
-        Comparison::Refused(refusal) => Answer::Refused(refusal),
-        Comparison::Done {
-            outcome,
-            g: _,
-            h: _,
-        } => Answer::Compared(outcome),
-    }
+    compare_read(first, second, sets, coeffs).map(|compared| compared.outcome)
 }

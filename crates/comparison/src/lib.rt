@@ -8,5 +8,5 @@ mod picking;
 
 pub use comparing::compare;
 pub use comparison_checking::{PLACES, SET_WORDS};
-pub use comparison_types::{Answer, Outcome, Refusal, Verdict, number, report_of, verdict_number};
+pub use comparison_types::{Outcome, Refusal, Verdict};
 pub use picking::pick;

@@ -1,4 +1,5 @@
 // The pick: of two lists that compare equal, the record with fewer T gates. Document 01, "Report, pick, builder".
+// Stays: licensees lend two plain slices, so sets and coefficients are two parameters; `Phase` of phase_sum_types says why they stay so.
 ghost use Rattle.std.specs.Prelude.{◌≡◌, ◌≤◌, ◌&&◌, length, take};
 ghost use Rattle.record_format.specs.Reading.{size, gates_in};
 ghost use Rattle.phase_sum_meaning.specs.Room.{places, set_words};
@@ -6,7 +7,7 @@ ghost use Rattle.comparison_types.specs.Call.{comparison, left_by, verdict_of, i
 ghost use Rattle.comparison_types.specs.Clauses.{PickIsRight, EmptyIfRefused};
 
 use crate::comparing::compare_read;
-use comparison_types::{Comparison, Verdict};
+use comparison_types::{Compared, Verdict};
 use gate_counting::t_gates;
 use record_format::{GATE_SIZE, HEAD_SIZE};
 use record_reading::gate_bytes;
@@ -32,9 +33,7 @@ fn takes_second(verdict: Verdict, first: &[u8], second: &[u8]) -> bool
 {
     match verdict {
         Verdict::Equal => second_is_better(first, second),
-        Verdict::Different => false,
-        Verdict::Undecided => false,
-        Verdict::Turned => false,
+        Verdict::Different | Verdict::Undecided | Verdict::Turned => false,
     }
 }
 
@@ -62,10 +61,9 @@ pub fn pick<'a, 'b, 'c>(
     ensures empty { EmptyIfRefused first.now second.now (length sets.old) (length coeffs.old) result.now }
 {
     match compare_read(first, second, sets, coeffs) {
-        Comparison::Refused(_) => &first[..0],
-        Comparison::Done { outcome, g, h } => {
-            let verdict = outcome.verdict;
-            if takes_second(verdict, gate_bytes(first, g), gate_bytes(second, h)) {
+        Err(_) => &first[..0],
+        Ok(Compared { outcome, g, h }) => {
+            if takes_second(outcome.verdict, gate_bytes(first, g), gate_bytes(second, h)) {
                 return whole(second, h);
             }
             whole(first, g)

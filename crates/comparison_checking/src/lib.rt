@@ -2,16 +2,16 @@
 // and 9 are of the two records alone; 10, of the workspaces, stands by itself behind them.
 #![tactic(auto)]
 
-ghost use Rattle.std.specs.Prelude.{◌≡◌, ◌||◌, [], ltb};
+ghost use Rattle.std.specs.Prelude.{◌≡◌, ◌||◌, [], ltb, IfOk};
 ghost use Rattle.record_format.specs.Reading.{read};
 ghost use Rattle.phase_sum_meaning.specs.Room.{places, set_words};
 ghost use Rattle.comparison_types.specs.Call.{workspace_rows, pair_fault};
 ghost use Rattle.comparison_types.specs.Inner.{AcceptedWith, found_fault, PairRead};
 
-use comparison_types::{PairCheck, Refusal};
+use comparison_types::{Pair, Refusal};
 use gate_counting::h_gates;
 use phase_sum_types::WORDS_EACH;
-use record_format::Checked;
+use record_format::Head;
 use record_reading::{check, gate_bytes};
 
 // The places of a workspace, a coefficient each.
@@ -23,57 +23,48 @@ pub const SET_WORDS: usize = WORDS_EACH * PLACES;
 // The variables that a pair may have.
 pub const MOST_VARIABLES: usize = 128;
 
-// 8 and 9, for two accepted lists on n and m qubits, of g and h gates.
-fn check_sizes(first: &[u8], second: &[u8], n: usize, m: usize, g: usize, h: usize) -> PairCheck
-    requires { AcceptedWith n g first.now × AcceptedWith m h second.now }
+// 8 and 9, for two accepted lists with these heads.
+fn check_sizes(first: &[u8], second: &[u8], one: Head, other: Head) -> Result<Pair, Refusal>
+    requires { AcceptedWith one.n one.g first.now × AcceptedWith other.n other.g second.now }
     ensures fault { found_fault result ≡ pair_fault (read first.now) (read second.now) [] }
-    ensures found { PairRead result first.now second.now }
+    ensures found { IfOk result (λ p. PairRead first.now second.now p) }
 {
-    if n != m {
-        return PairCheck::Refused(Refusal::QubitsDiffer);
+    let Head { n, g } = one;
+    let h = other.g;
+    if n != other.n {
+        return Err(Refusal::QubitsDiffer);
     }
     if n + (h_gates(gate_bytes(first, g)) + h_gates(gate_bytes(second, h))) > MOST_VARIABLES {
-        return PairCheck::Refused(Refusal::TooManyVariables);
+        return Err(Refusal::TooManyVariables);
     }
-    PairCheck::Good { n, g, h }
+    Ok(Pair { n, g, h })
 }
 
 // The checks on two records: the first list, the second, 8 and 9. Each list is read once, and what was found is handed on.
-pub fn check_pair(first: &[u8], second: &[u8]) -> PairCheck
+pub fn check_pair(first: &[u8], second: &[u8]) -> Result<Pair, Refusal>
     ensures fault { found_fault result ≡ pair_fault (read first.now) (read second.now) [] }
-    ensures found { PairRead result first.now second.now }
+    ensures found { IfOk result (λ p. PairRead first.now second.now p) }
 {
-    match check(first) {
-        Checked::Refused(refusal) => PairCheck::Refused(Refusal::First(refusal)),
-        Checked::Accepted { n, g } => match check(second) {
-            Checked::Refused(refusal) => PairCheck::Refused(Refusal::Second(refusal)),
-            Checked::Accepted { n: m, g: h } => check_sizes(first, second, n, m, g, h),
-        },
-    }
+    let one = check(first).map_err(Refusal::First)?;
+    let other = check(second).map_err(Refusal::Second)?;
+    check_sizes(first, second, one, other)
 }
 
 // 10: is one of two workspaces short of its words or bytes?
 pub fn workspace_short(words: usize, bytes: usize) -> bool
     ensures { result ≡ (ltb words set_words || ltb bytes places) }
 {
-    if words < SET_WORDS {
-        return true;
-    }
-    bytes < PLACES
+    words < SET_WORDS || bytes < PLACES
 }
 
 // All the checks on a call: those on the two records, then that on the workspaces.
-pub fn check_call(first: &[u8], second: &[u8], words: usize, bytes: usize) -> PairCheck
+pub fn check_call(first: &[u8], second: &[u8], words: usize, bytes: usize) -> Result<Pair, Refusal>
     ensures fault { found_fault result ≡ pair_fault (read first.now) (read second.now) (workspace_rows words bytes) }
-    ensures found { PairRead result first.now second.now }
+    ensures found { IfOk result (λ p. PairRead first.now second.now p) }
 {
-    match check_pair(first, second) {
-        PairCheck::Refused(refusal) => PairCheck::Refused(refusal),
-        PairCheck::Good { n, g, h } => {
-            if workspace_short(words, bytes) {
-                return PairCheck::Refused(Refusal::WorkspaceShort);
-            }
-            PairCheck::Good { n, g, h }
-        }
+    let pair = check_pair(first, second)?;
+    if workspace_short(words, bytes) {
+        return Err(Refusal::WorkspaceShort);
     }
+    Ok(pair)
 }

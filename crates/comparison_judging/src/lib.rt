@@ -1,19 +1,21 @@
 // The comparison layer, judging: the verdict on where the reduction ended, with its two inputs and the counts. Document 01, "Reducing it".
 #![tactic(auto)]
 
-ghost use Rattle.std.specs.Prelude.{◌≡◌, ℕ, ◌≤◌, Bool, List, length};
-ghost use Rattle.phase_sum_types.specs.Workspace.{sets_at, places_in, parity_of, Lent, slices};
+ghost use Rattle.std.specs.Prelude.{◌≡◌, ◌≤◌, Option};
+ghost use Rattle.phase_sum_types.specs.Workspace.{parity_of, phase_of, Lent};
 ghost use Rattle.comparison_meaning.specs.Verdict.{blocked_input, result as verdict_result, searched, judge};
+ghost use Rattle.phase_sum_types.specs.declared.Parity.{Parity};
 ghost use Rattle.comparison_types.specs.Call.{verdict_of, result_of};
-ghost use Rattle.comparison_types.specs.Inner.{end_of, unblocked};
+ghost use Rattle.comparison_types.specs.Inner.{end_of, stops_at};
 
 use comparison_searching::search;
-use comparison_types::{Counts, End, Outcome, Verdict, agreement};
-use phase_sum_sets::{below, count, is_empty, lowest};
+use comparison_types::{End, Outcome, Progress, Verdict, agreement};
+use phase_sum_terms::reading::PhaseTerms;
 use phase_sum_terms::terms::negate;
-use phase_sum_types::{Found, Parity, Sum};
+use phase_sum_types::Parity;
 
 // An input that makes a blocked parity 1: 0 if its constant is 1, else the input that holds only its lowest qubit.
+#[tactic(auto, unfolding(comparison_meaning::specs::Verdict::blocked_input))]
 fn blocked_input(by: Parity, n: usize) -> u16
     requires { n ≤ 16 }
     ensures { result ≡ blocked_input n (parity_of by) }
@@ -21,16 +23,19 @@ fn blocked_input(by: Parity, n: usize) -> u16
     if by.flipped {
         return 0;
     }
-    match lowest(below(by.set, n as u32)) {
-        Found::Variable(v) => 1u16 << v,
-        Found::Nothing => 0,
+    match by.set.below(n as u32).lowest() {
+        Some(v) => 1 << v,
+        None => 0,
     }
 }
 
 // The verdict and the inputs, with the counts and the variables left.
-fn outcome(sum: Sum, counts: Counts, verdict: Verdict, first: u16, second: u16) -> Outcome
-    ensures { (l : Lent) (by : Parity) → result_of result ≡ verdict_result (verdict_of verdict) first second (end_of (unblocked by sum counts) l) }
+// Stays: licensees read an outcome's eight fields by their names, so that the counts of steps are copied into it.
+#[tactic(auto, using(phase_sum_types::proofs::Members::members_few))]
+fn outcome(reached: Progress, verdict: Verdict, first: u16, second: u16) -> Outcome
+    ensures { (l : Lent) (blocked : Option Parity) → result_of result ≡ verdict_result (verdict_of verdict) first second (end_of (record { blocked = blocked; reached = reached }) l) }
 {
+    let Progress { sum, counts } = reached;
     Outcome {
         verdict,
         first,
@@ -39,43 +44,39 @@ fn outcome(sum: Sum, counts: Counts, verdict: Verdict, first: u16, second: u16) 
         sums: counts.sums,
         turns: counts.turns,
         joins: counts.joins,
-        left: count(sum.live) as u8,
+        left: sum.live.count() as u8,
     }
 }
 
 // No path variable is left: different unless pins and sums agree, else the search decides. Where it finds nothing, minus the constant is the
 // power of ω that carries the first list to the second.
-fn searched(sum: Sum, counts: Counts, n: usize, sets: &[u64], coeffs: &[u8]) -> Outcome
-    requires { (n ≤ 16) × (sum.phase.count ≤ places_in sets.now) × (sum.phase.count ≤ length coeffs.now) }
-    ensures { (ws : List ℕ) (fs : List Bool) (by : Parity) → result_of result ≡ searched 0 n (end_of (unblocked by sum counts) (slices ws fs (sets_at sets.now) coeffs.now)) }
+fn searched(reached: Progress, n: usize, terms: &PhaseTerms) -> Outcome
+    requires { n ≤ 16 }
+    ensures { (l : Lent) → terms.now ≡ phase_of reached.sum.phase l.sets l.coeffs → result_of result ≡ searched 0 n (end_of (stops_at reached) l) }
 {
-    let phase = sum.phase;
+    let Progress { sum, counts } = reached;
     if counts.pins != counts.sums {
-        return outcome(sum, counts, Verdict::Different, 0, 0);
+        return outcome(reached, Verdict::Different, 0, 0);
     }
-    let found = search(sets, coeffs, phase, n as u32);
-    if found != 0 {
-        return outcome(sum, counts, Verdict::Different, 0, found as u16);
+    if let Some(input) = search(terms, n as u32) {
+        return outcome(reached, Verdict::Different, 0, input as u16);
     }
-    let constant = phase.constant;
-    let j = negate(constant);
-    outcome(sum, counts, agreement(j), j as u16, 0)
+    let j = negate(sum.phase.constant);
+    outcome(reached, agreement(j), j as u16, 0)
 }
 
-// The verdict on n qubits.
-pub fn judge(end: End, n: usize, sets: &[u64], coeffs: &[u8]) -> Outcome
-    requires { (n ≤ 16) × (end.sum.phase.count ≤ places_in sets.now) × (end.sum.phase.count ≤ length coeffs.now) }
-    ensures { (ws : List ℕ) (fs : List Bool) → result_of result ≡ judge 0 n (end_of end (slices ws fs (sets_at sets.now) coeffs.now)) }
+// The verdict on n qubits, of an end and its terms.
+pub fn judge(end: End, n: usize, terms: &PhaseTerms) -> Outcome
+    requires { n ≤ 16 }
+    ensures { (l : Lent) → terms.now ≡ phase_of end.reached.sum.phase l.sets l.coeffs → result_of result ≡ judge 0 n (end_of end l) }
 {
-    let sum = end.sum;
-    let counts = end.counts;
-    let by = end.by;
-    if end.blocked {
+    let End { blocked, reached } = end;
+    if let Some(by) = blocked {
         let input = blocked_input(by, n);
-        return outcome(sum, counts, Verdict::Different, input, input);
+        return outcome(reached, Verdict::Different, input, input);
     }
-    if is_empty(sum.live) {
-        return searched(sum, counts, n, sets, coeffs);
+    if reached.sum.live.is_empty() {
+        return searched(reached, n, terms);
     }
-    outcome(sum, counts, Verdict::Undecided, 0, 0)
+    outcome(reached, Verdict::Undecided, 0, 0)
 }

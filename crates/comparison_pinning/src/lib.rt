@@ -1,40 +1,41 @@
 // The comparison layer, pinning: each output wire set equal to its input, qubit 0 upwards. Document 01, "Reducing it".
+// Stays: sets and coefficients, the two lent workspaces, are two parameters everywhere; `Phase` of phase_sum_types says why.
 #![tactic(auto)]
 
 ghost use Rattle.std.specs.Prelude.{◌≡◌, ◌+◌, ◌<◌, ◌≤◌, length, get_or};
 ghost use Rattle.phase_sum_meaning.specs.Parity.{of, ◌⊕◌, rest};
 ghost use Rattle.phase_sum_meaning.specs.Building.{input};
 ghost use Rattle.phase_sum_meaning.specs.Room.{most_variables};
-ghost use Rattle.phase_sum_types.specs.Workspace.{sets_at, places_in, Levelled, parity_of, zip_wires, lent, Sized};
+ghost use Rattle.phase_sum_types.specs.Workspace.{Level, parity_of, lent, Sized};
 ghost use Rattle.comparison_meaning.specs.Reduction.{is_zero};
 ghost use Rattle.comparison_types.specs.Inner.{PinnedQubit, PinnedAll};
 
-use comparison_types::{Counts, End};
-use phase_sum_sets::{empty, exclusive_or, is_empty, lowest_in, single};
+use comparison_types::{Counts, End, Progress};
 use phase_sum_stepping::replace;
-use phase_sum_terms::wires::wire;
-use phase_sum_types::{Found, Parity, Sum};
+use phase_sum_terms::wires::Wires;
+use phase_sum_types::{Parity, Set, Sum};
 
 // The parity of output wire q and input q together.
-fn mismatch(ws: &[u64], fs: &[bool], q: usize) -> Parity
-    requires { (q < most_variables) × (q < places_in ws.now) × (q < length fs.now) }
-    ensures { parity_of result ≡ get_or (zip_wires (sets_at ws.now) fs.now) q (of 0) ⊕ input 0 q }
+fn mismatch(wires: &Wires, q: usize) -> Parity
+    requires { (q < most_variables) × (q < length wires.now) }
+    ensures { parity_of result ≡ get_or wires.now q (of 0) ⊕ input 0 q }
 {
-    let w = wire(ws, fs, q);
+    let w = wires.get(q);
     Parity {
-        set: exclusive_or(w.set, single(q as u32)),
-        flipped: w.flipped,
+        set: w.set ^ Set::single(q as u32),
+        ..w
     }
 }
 
 // The rest of a parity without a variable that it holds.
+#[tactic(auto, unfolding(phase_sum_meaning::specs::Parity::rest))]
 pub fn rest_of(w: Parity, z: u32) -> Parity
     requires { z < most_variables }
     ensures { parity_of result ≡ rest z (parity_of w) }
 {
     Parity {
-        set: exclusive_or(w.set, single(z)),
-        flipped: w.flipped,
+        set: w.set ^ Set::single(z),
+        ..w
     }
 }
 
@@ -42,83 +43,53 @@ pub fn rest_of(w: Parity, z: u32) -> Parity
 fn is_zero(w: Parity) -> bool
     ensures { result ≡ is_zero (parity_of w) }
 {
-    if is_empty(w.set) {
-        return !w.flipped;
-    }
-    false
+    w.set.is_empty() && !w.flipped
 }
 
-// One pin more.
-fn add_pin(counts: Counts) -> Counts
-    requires { counts.pins < 255 }
-    ensures { result ≡ record { pins = counts.pins + 1; sums = counts.sums; turns = counts.turns; joins = counts.joins } }
-{
-    Counts {
-        pins: counts.pins + 1,
-        sums: counts.sums,
-        turns: counts.turns,
-        joins: counts.joins,
-    }
-}
-
-// Qubit q pinned, or blocked.
+// Qubit q pinned; or the parity that blocks it, and nothing has changed.
 fn pin_qubit(
-    sum: Sum,
-    counts: Counts,
+    now: Progress,
     q: usize,
-    ws: &mut [u64],
-    fs: &mut [bool],
+    wires: &mut Wires,
     sets: &mut [u64],
     coeffs: &mut [u8],
-) -> End
-    requires { (q < length fs.old) × (counts.pins ≤ q) × Sized sum (lent ws.old fs.old sets.old coeffs.old) × Levelled ws.old fs.old sets.old coeffs.old }
-    ensures { PinnedQubit q sum counts result (lent ws.old fs.old sets.old coeffs.old) (lent ws.new fs.new sets.new coeffs.new) }
+) -> Result<Progress, Parity>
+    requires { (q < length wires.old) × (now.counts.pins ≤ q) × Sized now.sum (lent wires.old sets.old coeffs.old) × Level sets.old coeffs.old }
+    ensures { PinnedQubit q now result (lent wires.old sets.old coeffs.old) (lent wires.new sets.new coeffs.new) }
 {
-    let by = mismatch(ws, fs, q);
-    match lowest_in(sum.live, by.set) {
-        Found::Variable(z) => End {
-            blocked: false,
-            by,
-            sum: replace(sum, z, rest_of(by, z), ws, fs, sets, coeffs),
-            counts: add_pin(counts),
-        },
-        Found::Nothing => End {
-            blocked: !is_zero(by),
-            by,
-            sum,
-            counts,
-        },
+    let w = mismatch(wires, q);
+    match now.sum.live.lowest_in(w.set) {
+        Some(z) => Ok(Progress {
+            sum: replace(now.sum, z, rest_of(w, z), wires, sets, coeffs),
+            counts: now.counts.add_pin(),
+        }),
+        None if is_zero(w) => Ok(now),
+        None => Err(w),
     }
 }
 
 // Every qubit pinned, up to the first that is blocked.
-pub fn pin(sum: Sum, ws: &mut [u64], fs: &mut [bool], sets: &mut [u64], coeffs: &mut [u8]) -> End
-    requires { Sized sum (lent ws.old fs.old sets.old coeffs.old) × Levelled ws.old fs.old sets.old coeffs.old }
-    ensures { PinnedAll sum result (lent ws.old fs.old sets.old coeffs.old) (lent ws.new fs.new sets.new coeffs.new) }
+pub fn pin(sum: Sum, wires: &mut Wires, sets: &mut [u64], coeffs: &mut [u8]) -> End
+    requires { Sized sum (lent wires.old sets.old coeffs.old) × Level sets.old coeffs.old }
+    ensures { PinnedAll sum result (lent wires.old sets.old coeffs.old) (lent wires.new sets.new coeffs.new) }
 {
-    let mut end = End {
-        blocked: false,
-        by: Parity {
-            set: empty(),
-            flipped: false,
-        },
+    let mut reached = Progress {
         sum,
-        counts: Counts {
-            pins: 0,
-            sums: 0,
-            turns: 0,
-            joins: 0,
-        },
+        counts: Counts::default(),
     };
-    let mut q = 0;
-    while q < fs.len() {
-        let now = end.sum;
-        let counts = end.counts;
-        end = pin_qubit(now, counts, q, ws, fs, sets, coeffs);
-        if end.blocked {
-            return end;
+    for q in 0..wires.len() {
+        match pin_qubit(reached, q, wires, sets, coeffs) {
+            Ok(next) => reached = next,
+            Err(by) => {
+                return End {
+                    blocked: Some(by),
+                    reached,
+                };
+            }
         }
-        q += 1;
     }
-    end
+    End {
+        blocked: None,
+        reached,
+    }
 }

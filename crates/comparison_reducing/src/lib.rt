@@ -1,74 +1,22 @@
 // The comparison layer, reducing: steps at the lowest ready variable, until none is ready or one is blocked. Document 01, "Reducing it".
+// Stays: sets and coefficients, the two lent workspaces, are two parameters everywhere; `Phase` of phase_sum_types says why.
 #![tactic(auto)]
 
-ghost use Rattle.std.specs.Prelude.{◌≡◌, ◌<◌, ◌≤◌, true, false, length};
+ghost use Rattle.std.specs.Prelude.{◌≡◌, ◌<◌, true, false, length};
 ghost use Rattle.amplitude.specs.Bits.{bit};
-ghost use Rattle.phase_sum_meaning.specs.Stepping.{kind_of, constraint, constrained, first_ready};
+ghost use Rattle.phase_sum_meaning.specs.Stepping.{kind_of, constrained, first_ready};
 ghost use Rattle.phase_sum_meaning.specs.Room.{most_variables};
-ghost use Rattle.phase_sum_types.specs.Workspace.{set_of, sets_at, places_in, Levelled, held, parity_of, members, found_of, lent, Sized};
-ghost use Rattle.comparison_meaning.specs.Reduction.{add_sum, add_turn, add_join};
-ghost use Rattle.comparison_types.specs.Inner.{counts_of, CountedTo, Goes, StepsTo, StepsAt, ReducedTo};
+ghost use Rattle.phase_sum_types.specs.Workspace.{set_of, sets_at, Level, parity_of, members, found_of, lent, Sized};
+ghost use Rattle.comparison_types.specs.Inner.{CountedTo, StepsTo, StepsAt, ReducedTo};
+ghost use Rattle.comparison_reducing.specs.Kind.{kind_in};
 
 use comparison_pinning::rest_of;
-use comparison_types::{Counts, End};
-use phase_sum_reading::{halves_of, odd_mask};
-use phase_sum_sets::{count, empty, is_empty, lowest_in, lowest_out, without};
+use comparison_types::{End, Progress};
+use phase_sum_reading::{Halves, halves_of, odd_mask};
 use phase_sum_stepping::{join_out, take_out, turn_out};
-use phase_sum_types::{Found, Parity, Set, Sum};
-
-// One sum more.
-fn add_sum(counts: Counts) -> Counts
-    requires { counts.sums < 255 }
-    ensures { counts_of result ≡ add_sum (counts_of counts) }
-{
-    Counts {
-        pins: counts.pins,
-        sums: counts.sums + 1,
-        turns: counts.turns,
-        joins: counts.joins,
-    }
-}
-
-// One turn more.
-fn add_turn(counts: Counts) -> Counts
-    requires { counts.turns < 255 }
-    ensures { counts_of result ≡ add_turn (counts_of counts) }
-{
-    Counts {
-        pins: counts.pins,
-        sums: counts.sums,
-        turns: counts.turns + 1,
-        joins: counts.joins,
-    }
-}
-
-// One join more.
-fn add_join(counts: Counts) -> Counts
-    requires { counts.joins < 255 }
-    ensures { counts_of result ≡ add_join (counts_of counts) }
-{
-    Counts {
-        pins: counts.pins,
-        sums: counts.sums,
-        turns: counts.turns,
-        joins: counts.joins + 1,
-    }
-}
-
-// Not blocked.
-fn goes(sum: Sum, counts: Counts) -> End
-    ensures { Goes sum counts result }
-{
-    End {
-        blocked: false,
-        by: Parity {
-            set: empty(),
-            flipped: false,
-        },
-        sum,
-        counts,
-    }
-}
+use phase_sum_terms::reading::PhaseTerms;
+use phase_sum_terms::wires::Wires;
+use phase_sum_types::{Parity, Set, Sum};
 
 // What must be 0 for a join: L with constant C/2.
 fn constraint_of(c: u8, l: Set) -> Parity
@@ -80,116 +28,118 @@ fn constraint_of(c: u8, l: Set) -> Parity
     }
 }
 
-// Does a step with this C and L join two variables or block: is C even, and not both C and L nothing?
-fn constrains(c: u8, l: Set) -> bool
-    ensures yes { result ≡ true → kind_of c (set_of l) ≡ constraint }
-    ensures no { result ≡ false → kind_of c (set_of l) ≡ constraint → ⊥ }
+// The three kinds of step.
+#[derive(Clone, Copy, Debug, PartialEq, Eq)]
+enum Kind {
+    // C and L are nothing: y drops out
+    Sum,
+    // C is odd: y drops out by an eighth turn
+    Turn,
+    // else L with constant C/2 must be 0: a join, or a block
+    Constraint,
+}
+
+// The kind of the step with this C and L.
+#[tactic(auto, unfolding(phase_sum_meaning::specs::Stepping::kind_of))]
+fn kind_of(c: u8, l: Set) -> Kind
+    ensures { kind_in result ≡ kind_of c (set_of l) }
 {
     if c % 2 == 1 {
-        return false;
+        return Kind::Turn;
     }
-    if c != 0 {
-        return true;
+    if c == 0 && l.is_empty() {
+        return Kind::Sum;
     }
-    !is_empty(l)
+    Kind::Constraint
 }
 
 // The step at a variable y left, whose C and L are given: a sum, a turn, or a join that replaces z.
 pub fn step_at(
-    sum: Sum,
-    counts: Counts,
+    now: Progress,
     y: u32,
     z: u32,
     c: u8,
     l: Set,
-    ws: &mut [u64],
-    fs: &mut [bool],
+    wires: &mut Wires,
     sets: &mut [u64],
     coeffs: &mut [u8],
-) -> End
-    requires { (bit y (set_of sum.live) ≡ true) × (y < most_variables) × (z < most_variables) × CountedTo most_variables counts × Sized sum (lent ws.old fs.old sets.old coeffs.old) × Levelled ws.old fs.old sets.old coeffs.old }
-    ensures { StepsTo y z c (set_of l) sum counts result (lent ws.old fs.old sets.old coeffs.old) (lent ws.new fs.new sets.new coeffs.new) }
+) -> Progress
+    requires { (bit y (set_of now.sum.live) ≡ true) × (y < most_variables) × (z < most_variables) × CountedTo most_variables now.counts × Sized now.sum (lent wires.old sets.old coeffs.old) × Level sets.old coeffs.old }
+    ensures { StepsTo y z c (set_of l) now result (lent wires.old sets.old coeffs.old) (lent wires.new sets.new coeffs.new) }
 {
-    if c % 2 == 1 {
-        return goes(turn_out(sum, y, c, l, sets, coeffs), add_turn(counts));
+    let Progress { sum, counts } = now;
+    match kind_of(c, l) {
+        Kind::Sum => Progress {
+            sum: take_out(sum, y, sets, coeffs),
+            counts: counts.add_sum(),
+        },
+        Kind::Turn => Progress {
+            sum: turn_out(sum, y, c, l, sets, coeffs),
+            counts: counts.add_turn(),
+        },
+        Kind::Constraint => {
+            let p = rest_of(constraint_of(c, l), z);
+            Progress {
+                sum: join_out(sum, y, z, p, wires, sets, coeffs),
+                counts: counts.add_join(),
+            }
+        }
     }
-    if constrains(c, l) {
-        let p = rest_of(constraint_of(c, l), z);
-        return goes(
-            join_out(sum, y, z, p, ws, fs, sets, coeffs),
-            add_join(counts),
-        );
-    }
-    goes(take_out(sum, y, sets, coeffs), add_sum(counts))
 }
 
-// The step at a ready variable y, where a join replaces the lowest variable left of L; blocked where there is none.
+// The step at a ready variable y, where a join replaces the lowest variable left of L; or, where there is none, the parity that blocks it,
+// and nothing has changed.
 fn step(
-    sum: Sum,
-    counts: Counts,
+    now: Progress,
     y: u32,
-    ws: &mut [u64],
-    fs: &mut [bool],
+    wires: &mut Wires,
     sets: &mut [u64],
     coeffs: &mut [u8],
-) -> End
-    requires { (bit y (set_of sum.live) ≡ true) × (y < most_variables) × CountedTo most_variables counts × Sized sum (lent ws.old fs.old sets.old coeffs.old) × Levelled ws.old fs.old sets.old coeffs.old }
-    ensures { StepsAt y sum counts result (lent ws.old fs.old sets.old coeffs.old) (lent ws.new fs.new sets.new coeffs.new) }
+) -> Result<Progress, Parity>
+    requires { (bit y (set_of now.sum.live) ≡ true) × (y < most_variables) × CountedTo most_variables now.counts × Sized now.sum (lent wires.old sets.old coeffs.old) × Level sets.old coeffs.old }
+    ensures { StepsAt y now result (lent wires.old sets.old coeffs.old) (lent wires.new sets.new coeffs.new) }
 {
-    let phase = sum.phase;
-    let halves = halves_of(sets, coeffs, phase.count, y);
-    let c = halves.c;
-    let l = halves.l;
-    match lowest_in(without(sum.live, y), l) {
-        Found::Variable(z) => step_at(sum, counts, y, z, c, l, ws, fs, sets, coeffs),
-        Found::Nothing => {
-            if constrains(c, l) {
-                return End {
-                    blocked: true,
-                    by: constraint_of(c, l),
-                    sum,
-                    counts,
-                };
-            }
-            step_at(sum, counts, y, y, c, l, ws, fs, sets, coeffs)
-        }
+    let sum = now.sum;
+    let Halves { c, l } = halves_of(&PhaseTerms::new(sets, coeffs, sum.phase), y);
+    match sum.live.without(y).lowest_in(l) {
+        Some(z) => Ok(step_at(now, y, z, c, l, wires, sets, coeffs)),
+        None => match kind_of(c, l) {
+            Kind::Constraint => Err(constraint_of(c, l)),
+            Kind::Sum | Kind::Turn => Ok(step_at(now, y, y, c, l, wires, sets, coeffs)),
+        },
     }
 }
 
 // The lowest ready variable: left, and in no term of odd coefficient.
-fn ready(sum: Sum, sets: &[u64], coeffs: &[u8]) -> Found
-    requires { (sum.phase.count ≤ places_in sets.now) × (sum.phase.count ≤ length coeffs.now) }
-    ensures { found_of result ≡ first_ready (members (set_of sum.live)) (held sum.phase.count (sets_at sets.now) coeffs.now) }
+fn ready(live: Set, terms: &PhaseTerms) -> Option<u32>
+    ensures { found_of result ≡ first_ready (members (set_of live)) terms.now.terms }
 {
-    let phase = sum.phase;
-    lowest_out(sum.live, odd_mask(sets, coeffs, phase.count))
+    live.lowest_out(odd_mask(terms))
 }
 
-// The steps of a pinned sum.
-pub fn reduce(
-    sum: Sum,
-    counts: Counts,
-    ws: &mut [u64],
-    fs: &mut [bool],
-    sets: &mut [u64],
-    coeffs: &mut [u8],
-) -> End
-    requires { CountedTo 0 counts × Sized sum (lent ws.old fs.old sets.old coeffs.old) × Levelled ws.old fs.old sets.old coeffs.old }
-    ensures { ReducedTo sum counts result (lent ws.old fs.old sets.old coeffs.old) (lent ws.new fs.new sets.new coeffs.new) }
+// The steps of a pinned sum: at most one for each variable left.
+pub fn reduce(pinned: Progress, wires: &mut Wires, sets: &mut [u64], coeffs: &mut [u8]) -> End
+    requires { CountedTo 0 pinned.counts × Sized pinned.sum (lent wires.old sets.old coeffs.old) × Level sets.old coeffs.old }
+    ensures { ReducedTo pinned result (lent wires.old sets.old coeffs.old) (lent wires.new sets.new coeffs.new) }
 {
-    let mut end = goes(sum, counts);
-    let mut left = count(sum.live);
-    while left > 0 {
-        let now = end.sum;
-        let Found::Variable(y) = ready(now, sets, coeffs) else {
-            return end;
+    let mut reached = pinned;
+    for _ in 0..pinned.sum.live.count() {
+        let Sum { live, phase } = reached.sum;
+        let Some(y) = ready(live, &PhaseTerms::new(sets, coeffs, phase)) else {
+            break;
         };
-        let counts = end.counts;
-        end = step(now, counts, y, ws, fs, sets, coeffs);
-        if end.blocked {
-            return end;
+        match step(reached, y, wires, sets, coeffs) {
+            Ok(next) => reached = next,
+            Err(by) => {
+                return End {
+                    blocked: Some(by),
+                    reached,
+                };
+            }
         }
-        left -= 1;
     }
-    end
+    End {
+        blocked: None,
+        reached,
+    }
 }

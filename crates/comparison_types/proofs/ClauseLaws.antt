@@ -7,6 +7,7 @@ use native.Mathlib.Nat.{le_refl}
 use native.Mathlib.Omega.{arith}
 use mathlib.Core.Bool.{Bool, true, false, ◌||◌}
 use mathlib.Core.Option.{Option, none, some}
+use Rattle.std.specs.Prelude.{Result as Returned, Ok}
 use mathlib.Core.List.{List, ◌++◌}
 use lib.ListN.{length, take, drop}
 use lib.Seq.{length-take-le}
@@ -33,36 +34,31 @@ use Rattle.comparison_meaning.specs.Verdict.{Result, miter, judge, compare}
 use Rattle.comparison_meaning.specs.Demands.{Accepted, Demands, OnePower, ByTheSteps, InputsAsSaid, CliffordIsDecided, CountsAddUp, StepsWithinHGates}
 use Rattle.comparison_meaning.proofs.Bytes.{demands_pair}
 use Rattle.record_format.specs.Pair.{PairFault}
-use Rattle.comparison_types.specs.Call.{says, refuses, fault_of, result_of, said_of, pair_rows, workspace_rows, pair_fault, compare_read, unless_fault, comparison}
+use Rattle.comparison_types.specs.Call.{says, refuses, result_of, said_of, pair_rows, workspace_rows, pair_fault, compare_read, unless_fault, comparison}
 use Rattle.comparison_types.specs.Clauses.{ForResult, Right, Sound, Stops, Inputs, Clifford, CountsUp}
-use Rattle.comparison_types.specs.Inner.{AcceptedWith, found_fault, PairRead}
+use Rattle.comparison_types.specs.Inner.{AcceptedWith, PairRead}
 use Rattle.comparison_types.specs.declared.Outcome.{Outcome}
 use Rattle.comparison_types.specs.declared.Refusal.{Refusal}
-use Rattle.comparison_types.specs.declared.Answer.{Answer}
-use Rattle.comparison_types.specs.declared.Answer.TheVariants.{Compared}
-use Rattle.comparison_types.specs.declared.PairCheck.{PairCheck}
-use Rattle.comparison_types.specs.declared.PairCheck.TheVariants.{Good}
+use Rattle.comparison_types.specs.declared.Pair.{Pair}
 use Rattle.phase_sum_types.proofs.Running.{AsLong}
 use Rattle.comparison_types.proofs.PairLaws.{part_of, gates_of}
 
--- a sum that was built of two lists in slices with room for them has room to be reduced
+-- a sum that was built of two lists where there is room for them has room to be reduced
 pub built_sized :
     (gs hs : List Gate) {r : Sum} {l l' : Lent} →
     Builds (miter gs hs) r l l' →
     AsLong l l' →
     length l.wires ≤ 16 →
-    length l.flips ≡ length l.wires →
     room gs hs ≤ length l.sets →
     room gs hs ≤ length l.coeffs →
     Sized r l'
-built_sized gs hs {r} {l} {l'} b long few flips sets coeffs =
+built_sized gs hs {r} {l} {l'} b long few sets coeffs =
     let n = length l.wires in
     let fits = room-build 0 n (miter gs hs) in
     let rooms : tally room_for (miter gs hs) ≡ room gs hs = tally-append room_for gs (inverse_list hs) ∙ rw (tally-inverse-room hs) in
     let left : length (members (set_of r.live)) ≡ length (build 0 n (miter gs hs)).live = ap (λ t. length t.live) b.sum in
     record {
       few = omega (arith, few, long.wires);
-      flips = omega (arith, flips, long.wires, long.flips);
       sets = omega (arith, b.terms.counted, left, fits, rooms, sets, long.sets);
       coeffs = omega (arith, b.terms.counted, left, fits, rooms, coeffs, long.coeffs);
     }
@@ -81,11 +77,10 @@ decided n k gs hs built same pins reduces judges = rw (judges, reduces, pins, sa
 
 -- where the checks answer a refusal, that is said of the pair
 pub refusal_said :
-    (s t : List ℕ) (w c : ℕ) {k : Refusal} {r : PairCheck} →
-    found_fault r ≡ pair_fault (read s) (read t) (workspace_rows w c) →
-    r ≡ PairCheck.Refused k →
-    refuses (fault_of k) ≡ comparison s t w c
-refusal_said s t w c found refused = rw (← found, refused)
+    (s t : List ℕ) (w c : ℕ) {f : PairFault} →
+    some f ≡ pair_fault (read s) (read t) (workspace_rows w c) →
+    refuses f ≡ comparison s t w c
+refusal_said s t w c found = rw (← found)
 
 -- a pair that the checks let pass: two accepted lists on n qubits, of g and h gates, with no more variables than a pair may have, and
 -- workspaces with all their words and bytes
@@ -102,29 +97,28 @@ neither : (a b : Bool) → (a || b) ≡ false → (a ≡ false) × (b ≡ false)
 neither true b e = let z : ◌≡◌ {A = ℕ} 0 1 = cc in absurd (omega arith)
 neither false b e = (refl, e)
 
--- where the checks answer n, g and h, the pair passes
+-- where the checks find no fault, the pair passes
 pub pair_passes :
-    (s t ss cs : List ℕ) {n g h : ℕ} {r : PairCheck} →
-    found_fault r ≡ pair_fault (read s) (read t) (workspace_rows (length ss) (length cs)) →
-    PairRead r s t →
-    r ≡ Good n g h →
-    Passed s t ss cs n g h
+    (s t ss cs : List ℕ) {p : Pair} →
+    none ≡ pair_fault (read s) (read t) (workspace_rows (length ss) (length cs)) →
+    PairRead s t p →
+    Passed s t ss cs p.n p.g p.h
 unfolding pair_fault compare_read
-pair_passes s t ss cs {n} {g} {h} {r} found lists good =
-    let (list, other) : AcceptedWith n g s × AcceptedWith n h t = rw good at lists in
-    let gs = list.gates in
-    let hs = other.gates in
+pair_passes s t ss cs {p} found lists =
+    let n = p.n in
+    let gs = lists.first.gates in
+    let hs = lists.second.gates in
     let below = workspace_rows (length ss) (length cs) in
-    let fault : pair_fault (read s) (read t) below ≡ none = sym found ∙ ap found_fault good in
-    let rows = (none_holds (pair_rows n n gs hs ++ below)).0 (rw (list.reads, other.reads) at fault) in
+    let fault : pair_fault (read s) (read t) below ≡ none = sym found in
+    let rows = (none_holds (pair_rows n n gs hs ++ below)).0 (rw (lists.first.reads, lists.second.reads) at fault) in
     let sizes = neither (ltb (length ss) set_words) (ltb (length cs) places) rows.1.1.0 in
     record {
-      first = list;
-      second = other;
+      first = lists.first;
+      second = lists.second;
       variables = ltb-false most_variables (n + (h_gates gs + h_gates hs)) rows.1.0;
       sets = ltb-false (length ss) set_words sizes.0;
       coeffs = ltb-false (length cs) places sizes.1;
-      said = rw (fault, list.reads, other.reads);
+      said = rw (fault, lists.first.reads, lists.second.reads);
     }
 
 -- the gate bytes of a pair that passes
@@ -161,12 +155,12 @@ module _
     pass_said {o} e = ap says (rw (gates_first, gates_second) at e) ∙ sym pass.said
 
 -- the clauses of an answer that says what the comparison of two records says
-module _ (s t : List ℕ) (w c : ℕ) (a : Answer) (said : said_of a ≡ comparison s t w c) where
+module _ (s t : List ℕ) (w c : ℕ) (a : Returned Outcome Refusal) (said : said_of a ≡ comparison s t w c) where
   -- the outcome of two accepted records is the result for their gates
   outcome_is :
       (n : ℕ) (first second : List Gate) (o : Outcome) →
       Accepted s t n first second →
-      a ≡ Compared o →
+      a ≡ Ok o →
       result_of o ≡ compare 0 n first second
   unfolding compare_read
   outcome_is n first second o pair is =

@@ -11,14 +11,10 @@ use lib.ListN.{length, take, drop}
 use lib.Dec.{ltb}
 use borrow.Author.Tests.{lt-ltb, le-ltb, eq-eqb, ne_eqb}
 use Rattle.record_format.specs.Format.{head_size, gate_size}
-use Rattle.record_format.specs.Row.{Row, first}
+use Rattle.record_format.specs.Row.{Fault, Row, first}
 use Rattle.record_format.specs.Reading.{Reading, accepted, refused, read, size, gates_in}
-use Rattle.record_format.specs.Answer as list
-use Rattle.record_format.specs.Answer.{gives, refuses, checked_answer}
+use Rattle.record_format.specs.Answer.{gives, refuses}
 use Rattle.record_format.specs.Writing.{check_answer, gate_part}
-use Rattle.record_format.specs.declared.Refusal as list-refusal
-use Rattle.record_format.specs.declared.Checked.{Checked}
-use Rattle.record_format.specs.declared.Checked.TheVariants.{Accepted}
 use Rattle.record_format.proofs.Theorems.{accepted_is_sound}
 use Rattle.record_format.proofs.Reading.{Accepts, accepts}
 use Rattle.record_format.proofs.Rows.{first_none, first_some}
@@ -27,16 +23,12 @@ use Rattle.amplitude.specs.Circuit.{h_gates}
 use Rattle.gate_counting.proofs.Tallying.{h_gates_few}
 use Rattle.phase_sum_meaning.specs.Room.{most_variables, places, set_words}
 use Rattle.record_format.specs.Pair.{PairFault, in_first, in_second, of_pair}
-use Rattle.comparison_types.specs.Call.{fault_of, pair_rows, workspace_rows, pair_fault}
-use Rattle.comparison_types.specs.Inner.{AcceptedWith, found_fault}
-use Rattle.comparison_types.specs.declared.Refusal.{Refusal}
-use Rattle.comparison_types.specs.declared.PairCheck.{PairCheck}
-use Rattle.comparison_types.specs.declared.PairCheck.TheVariants.{Good}
+use Rattle.comparison_types.specs.Call.{pair_rows, workspace_rows, pair_fault}
+use Rattle.comparison_types.specs.Inner.{AcceptedWith}
 
 -- a check that answered n and g accepts the record, with these
-pub accepted_with :
-    (s : List ℕ) (found : Checked) (n g : ℕ) → checked_answer found ≡ check_answer (read s) → found ≡ Accepted n g → AcceptedWith n g s
-accepted_with s found n g answers is = go (read s) refl (rw is at answers)
+pub accepted_with : (s : List ℕ) {n g : ℕ} → gives (n ∷ g ∷ []) ≡ check_answer (read s) → AcceptedWith n g s
+accepted_with s {n} {g} answers = go (read s) refl answers
   where
     go : (q : Reading) → read s ≡ q → gives (n ∷ g ∷ []) ≡ check_answer q → AcceptedWith n g s
     go (accepted m gs) e h = record { gates = gs; reads = cc; counted = cc }
@@ -46,7 +38,7 @@ accepted_with s found n g answers is = go (read s) refl (rw is at answers)
 module _ {n g : ℕ} {s : List ℕ} (list : AcceptedWith n g s) where
   -- its head is good, and n and g are its own
   pub head_of : Accepts s n g
-  head_of = accepts s (Accepted n g) n g (rw (list.reads, list.counted)) refl
+  head_of = accepts s n g (rw (list.reads, list.counted))
 
   -- the bytes have the whole record
   pub whole_of : size g ≤ length s
@@ -65,33 +57,26 @@ module _ {n g : ℕ} {s : List ℕ} (list : AcceptedWith n g s) where
   h_counted is counted = counted ∙ ap (λ b. h_gates (gates_in b)) is ∙ ap h_gates gates_of
 
 -- a check that answered a refusal refuses the record, by its fault
-refused_by_lem :
-    (s : List ℕ) (found : Checked) (r : list-refusal.Refusal) → checked_answer found ≡ check_answer (read s) → found ≡ Checked.Refused r
-    → read s ≡ refused (list.fault_of r)
-refused_by_lem s found r answers is = go (read s) (rw is at answers)
+refused_by_lem : (s : List ℕ) (f : Fault) → refuses f ≡ check_answer (read s) → read s ≡ refused f
+refused_by_lem s f answers = go (read s) answers
   where
-    go : (q : Reading) → refuses (list.fault_of r) ≡ check_answer q → q ≡ refused (list.fault_of r)
+    go : (q : Reading) → refuses f ≡ check_answer q → q ≡ refused f
     go (accepted m gs) h = let z : ◌≡◌ {A = ℕ} 0 1 = cc in absurd (omega arith)
     go (refused f) h = cc
 
 -- a fault of the first list is the pair's
 pub first_refused :
-    (s t : List ℕ) (below : List (Row PairFault)) (found : Checked) (r : list-refusal.Refusal)
-    → checked_answer found ≡ check_answer (read s)
-    → found ≡ Checked.Refused r
-    → some (fault_of (Refusal.First r)) ≡ pair_fault (read s) (read t) below
+    (s t : List ℕ) (below : List (Row PairFault)) (f : Fault) → refuses f ≡ check_answer (read s)
+    → some (in_first f) ≡ pair_fault (read s) (read t) below
 unfolding pair_fault
-first_refused s t below found r answers is = rw (refused_by_lem s found r answers is)
+first_refused s t below f answers = rw (refused_by_lem s f answers)
 
 -- behind an accepted first list a fault of the second is the pair's
 pub second_refused :
-    (s t : List ℕ) (below : List (Row PairFault)) {n g : ℕ} (found : Checked) (r : list-refusal.Refusal)
-    → AcceptedWith n g s
-    → checked_answer found ≡ check_answer (read t)
-    → found ≡ Checked.Refused r
-    → some (fault_of (Refusal.Second r)) ≡ pair_fault (read s) (read t) below
+    (s t : List ℕ) (below : List (Row PairFault)) {n g : ℕ} (f : Fault) → AcceptedWith n g s → refuses f ≡ check_answer (read t)
+    → some (in_second f) ≡ pair_fault (read s) (read t) below
 unfolding pair_fault
-second_refused s t below found r list answers is = rw (list.reads, refused_by_lem t found r answers is)
+second_refused s t below f list answers = rw (list.reads, refused_by_lem t f answers)
 
 -- an accepted list has at most 16 qubits and 512 H gates
 pub small : {n g : ℕ} {s : List ℕ} (list : AcceptedWith n g s) → (n ≤ 16) × (h_gates list.gates ≤ 512)
@@ -121,33 +106,29 @@ module _ {n m g h : ℕ} {s t : List ℕ} (below : List (Row PairFault)) (list :
       rw (list.reads, other.reads, eq-eqb n m same, le-ltb most_variables (n + (h_gates list.gates + h_gates other.gates)) few)
 
 -- what the checks on two records found, with more rows below
-module _ (below : List (Row PairFault)) where
+module _ (s t : List ℕ) (below : List (Row PairFault)) where
   -- a fault stays
-  still_refused : (r q : Reading) (f : PairFault) → some f ≡ pair_fault r q [] → some f ≡ pair_fault r q below
+  pub still_refused : (f : PairFault) → some f ≡ pair_fault (read s) (read t) [] → some f ≡ pair_fault (read s) (read t) below
   unfolding pair_fault
-  still_refused (refused f) q k e = e
-  still_refused (accepted n gs) (refused f) k e = e
-  still_refused (accepted n gs) (accepted m hs) f e = sym (first_some (pair_rows n m gs hs) below f (sym e))
+  still_refused f = go (read s) (read t)
+    where
+      go : (r q : Reading) → some f ≡ pair_fault r q [] → some f ≡ pair_fault r q below
+      go (refused f) q e = e
+      go (accepted n gs) (refused f) e = e
+      go (accepted n gs) (accepted m hs) e = sym (first_some (pair_rows n m gs hs) below f (sym e))
 
   -- without one the rows below decide
-  rest_decides : (r q : Reading) → none ≡ pair_fault r q [] → pair_fault r q below ≡ first below
+  pub rest_decides : none ≡ pair_fault (read s) (read t) [] → pair_fault (read s) (read t) below ≡ first below
   unfolding pair_fault
-  rest_decides (refused f) q e = absurd (none-ne-some (in_first f) e)
-  rest_decides (accepted n gs) (refused f) e = absurd (none-ne-some (in_second f) e)
-  rest_decides (accepted n gs) (accepted m hs) e = first_none (pair_rows n m gs hs) below (sym e)
-
--- the checks' answer with a call's own rows below
-module _ (s t : List ℕ) (below : List (Row PairFault)) (r : PairCheck) (found : found_fault r ≡ pair_fault (read s) (read t) []) where
-  -- a pair that was refused is refused by the same fault
-  pub call_refused : {k : Refusal} → r ≡ PairCheck.Refused k → some (fault_of k) ≡ pair_fault (read s) (read t) below
-  call_refused {k} is = still_refused below (read s) (read t) (fault_of k) (sym (ap found_fault is) ∙ found)
-
-  -- for a pair that passed they decide
-  pub call_rest : {n g h : ℕ} → r ≡ Good n g h → pair_fault (read s) (read t) below ≡ first below
-  call_rest is = rest_decides below (read s) (read t) (sym (ap found_fault is) ∙ found)
+  rest_decides = go (read s) (read t)
+    where
+      go : (r q : Reading) → none ≡ pair_fault r q [] → pair_fault r q below ≡ first below
+      go (refused f) q e = absurd (none-ne-some (in_first f) e)
+      go (accepted n gs) (refused f) e = absurd (none-ne-some (in_second f) e)
+      go (accepted n gs) (accepted m hs) e = first_none (pair_rows n m gs hs) below (sym e)
 
 -- a pair that passed is refused by 10 where a workspace is short
-pub call_decides : (s t : List ℕ) (w c : ℕ) (r : PairCheck) → found_fault r ≡ pair_fault (read s) (read t) [] → {n g h : ℕ} → r ≡ Good n g h →
+pub call_decides : (s t : List ℕ) (w c : ℕ) → none ≡ pair_fault (read s) (read t) [] →
     (b : Bool) → b ≡ (ltb w set_words || ltb c places) → cond b (some (of_pair 10)) none ≡ pair_fault (read s) (read t) (workspace_rows w c)
 unfolding first
-call_decides s t w c r found is b short = rw (call_rest s t (workspace_rows w c) r found is, short)
+call_decides s t w c passes b short = rw (rest_decides s t (workspace_rows w c) passes, short)

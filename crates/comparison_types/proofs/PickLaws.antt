@@ -6,11 +6,12 @@ use Prim.Native.Nat.{ℕ, ◌+◌, ◌*◌, ◌/◌, ◌<◌, ◌≤◌}
 use native.Mathlib.Omega.{arith}
 use mathlib.Core.Bool.{Bool, true, false, cond, ◌&&◌, ◌||◌, and-eq-true_iff}
 use mathlib.Core.List.{List, []}
+use Rattle.std.specs.Prelude.{Result as Returned, Ok, Err}
 use lib.ListN.{length, get_or, take, drop, length-take, length-map}
 use lib.Seq.{get_or-take, take-take, take-add, drop_at}
 use lib.Dec.{ltb, eqb}
 use borrow.Author.Tests.{ltb-true, lt-ltb, le-ltb, eqb-true, eq-eqb, ne_eqb}
-use Rattle.record_format.specs.Format.{gate_size}
+use Rattle.record_format.specs.Format.{head_size, gate_size}
 use Rattle.record_format.specs.Gate.{Gate}
 use Rattle.record_format.specs.Row.{first}
 use Rattle.record_format.specs.Reading.{Reading, accepted, refused, read, count, size, body, record_rows, gates_in}
@@ -29,23 +30,12 @@ use Rattle.comparison_types.specs.declared.Verdict.{Verdict}
 use Rattle.comparison_types.specs.declared.Verdict.TheVariants.{Equal, Different, Undecided, Turned}
 use Rattle.comparison_types.specs.declared.Refusal.{Refusal}
 use Rattle.comparison_types.specs.declared.Outcome.{Outcome}
-use Rattle.comparison_types.specs.declared.Comparison.{Comparison}
-use Rattle.comparison_types.specs.declared.Comparison.TheVariants.{Done}
-use Rattle.comparison_types.specs.declared.Answer.{Answer}
-use Rattle.comparison_types.specs.declared.Answer.TheVariants.{Compared, Refused}
-use Rattle.comparison_types.proofs.PairLaws.{head_of}
+use Rattle.comparison_types.specs.declared.Compared.{Compared}
+use Rattle.comparison_types.proofs.PairLaws.{head_of, gates_of}
 use Rattle.comparison_types.proofs.ClauseLaws.{sound_said}
 
--- what was read of a pair that was compared
-pub lists_read :
-    (s t : List ℕ) {r : Comparison} {o : Outcome} {g h : ℕ}
-    → r ≡ Done o g h
-    → ComparedRead r s t
-    → (n : ℕ) × AcceptedWith n g s × AcceptedWith n h t
-lists_read s t is found = rw is at found
-
 -- the record at the start of an accepted list's bytes is its own
-pub own_of : {n g : ℕ} {s : List ℕ} → AcceptedWith n g s → take (size g) s ≡ own_bytes s
+own_of : {n g : ℕ} {s : List ℕ} → AcceptedWith n g s → take (size g) s ≡ own_bytes s
 own_of list = rw (head_of list).g_is
 
 module _ (s : List ℕ) (n : ℕ) (gs : List Gate) (e : read s ≡ accepted n gs) where
@@ -175,14 +165,14 @@ passed (accepted n gs) (accepted m hs) w c r h = go (eqb n m) refl
 
 module _ (s t : List ℕ) (w c : ℕ) where
   -- two records that were compared are accepted, on as many qubits
-  pub accepted_pair : (r : Result) → comparison s t w c ≡ says r
+  accepted_pair : (r : Result) → comparison s t w c ≡ says r
       → (n : ℕ) × (gs : List Gate) × (hs : List Gate) × Accepted s t n gs hs
   accepted_pair r h =
       let (n, gs, hs, e, f) = passed (read s) (read t) w c r h in
       (n, gs, hs, record { reads_first = e; reads_second = f })
 
   -- which list the pick takes of such a pair
-  pub picked_by : (n : ℕ) (gs hs : List Gate) (r : Result) (b : Bool) → Accepted s t n gs hs → comparison s t w c ≡ says r
+  picked_by : (n : ℕ) (gs hs : List Gate) (r : Result) (b : Bool) → Accepted s t n gs hs → comparison s t w c ≡ says r
       → b ≡ (is_equal r.verdict && better gs hs) → picked s t w c ≡ cond b the_second the_first
   picked_by n gs hs r b pair compared same =
       rw (compared, pair.reads_first, pair.reads_second, same) (choice_by r n n gs hs)
@@ -192,22 +182,18 @@ module _ (s t : List ℕ) (w c : ℕ) where
   unfolding choice
   picked_nothing f refuses-it = rw refuses-it
 
-  -- so where the answer is a refusal
-  pub picked_refused : (a : Answer) (r : Refusal) → said_of a ≡ comparison s t w c → a ≡ Refused r → picked s t w c ≡ nothing
-  picked_refused a r said is = picked_nothing (fault_of r) (sym said ∙ ap said_of is)
-
-  module _ (a : Answer) (said : said_of a ≡ comparison s t w c) (sound : Sound s t a) where
+  module _ (a : Returned Outcome Refusal) (said : said_of a ≡ comparison s t w c) (sound : Sound s t a) where
     -- equal is said only where all amplitudes agree
     amplitudes_agree : (n : ℕ) (gs hs : List Gate) (o : Result) → Accepted s t n gs hs → comparison s t w c ≡ says o
         → is_equal o.verdict ≡ true → Carries n 0 gs hs
     amplitudes_agree n gs hs o pair compared equal = go a refl (said ∙ compared)
       where
-        go : (b : Answer) → a ≡ b → said_of b ≡ says o → Carries n 0 gs hs
-        go (Compared out) is h =
+        go : (b : Returned Outcome Refusal) → a ≡ b → said_of b ≡ says o → Carries n 0 gs hs
+        go (Ok out) is h =
             let whole : result_of out ≡ o = cc in
             let same : verdict_of out.verdict ≡ o.verdict = ap (λ (r : Result). r.verdict) whole in
             (sound n gs hs out pair is).0.0 (ap verdict_of (is_equal_lem out.verdict (rw same equal)))
-        go (Refused r) is h = let z : ◌≡◌ {A = ℕ} 0 1 = cc in absurd (omega arith)
+        go (Err r) is h = let z : ◌≡◌ {A = ℕ} 0 1 = cc in absurd (omega arith)
 
     -- the part that is handed back is right
     right : PickIsRight s t w c (picked_part (picked s t w c) s t)
@@ -246,27 +232,70 @@ module _ (s t : List ℕ) (w c : ℕ) where
           let b = is_equal r.verdict && better gs hs in
           absurd (some_bytes n gs hs pair b (rw (picked_by n gs hs r b pair e refl) at none_left))
 
--- all that the pick's contract says, of the choice x
-pub picks {ℓ} :
-    {B : Type ℓ} (s t ss cs ss' cs' : List ℕ) (a : Answer) (x : Choice) (p q r : B) (part : List ℕ)
-    → said_of a ≡ comparison s t (length ss) (length cs)
-    → (ss' ≡ left_by set_words (said_of a) ss) × (cs' ≡ left_by places (said_of a) cs)
-    → picked s t (length ss) (length cs) ≡ x
-    → part ≡ picked_part x s t
-    → r ≡ picked_at x p q
-    → (part ≡ picked_part (picked s t (length ss) (length cs)) s t)
-    × ((r ≡ picked_at (picked s t (length ss) (length cs)) p q)
-    × (((ss' ≡ left_by set_words (comparison s t (length ss) (length cs)) ss) × (cs' ≡ left_by places (comparison s t (length ss) (length cs)) cs))
-    × (PickIsRight s t (length ss) (length cs) part × EmptyIfRefused s t (length ss) (length cs) part)))
-picks s t ss cs ss' cs' a x p q r part said kept is content start =
-    let whole : part ≡ picked_part (picked s t (length ss) (length cs)) s t = rw is content in
-    let sound : Sound s t a = sound_said s t (length ss) (length cs) a said in (
-      whole,
-      (
-        rw is start,
-        (
-          (rw (← said) kept.0, rw (← said) kept.1),
-          (rw whole (right s t (length ss) (length cs) a said sound), rw whole (empty s t (length ss) (length cs))),
-        ),
-      ),
-    )
+-- all that the pick's contract says, of the part that starts at r
+pub record PickMet {ℓ} {B : Type ℓ} (s t ss cs ss' cs' : List ℕ) (p q r : B) (part : List ℕ) : Type ℓ where
+  pub content : part ≡ picked_part (picked s t (length ss) (length cs)) s t
+  pub own : r ≡ picked_at (picked s t (length ss) (length cs)) p q
+  pub kept :
+      (ss' ≡ left_by set_words (comparison s t (length ss) (length cs)) ss) × (cs' ≡ left_by places (comparison s t (length ss) (length cs)) cs)
+  pub right : PickIsRight s t (length ss) (length cs) part
+  pub empty : EmptyIfRefused s t (length ss) (length cs) part
+
+module _ {ℓ} {B : Type ℓ} (s t ss cs ss' cs' : List ℕ) (p q : B) where
+  -- it holds of the part that is chosen
+  picks :
+      (a : Returned Outcome Refusal) (x : Choice)
+      → said_of a ≡ comparison s t (length ss) (length cs)
+      → (ss' ≡ left_by set_words (said_of a) ss) × (cs' ≡ left_by places (said_of a) cs)
+      → picked s t (length ss) (length cs) ≡ x
+      → PickMet s t ss cs ss' cs' p q (picked_at x p q) (picked_part x s t)
+  picks a x said kept is =
+      let sound : Sound s t a = sound_said s t (length ss) (length cs) a said in
+      record {
+        content = rw is;
+        own = rw is;
+        kept = (rw (← said) kept.0, rw (← said) kept.1);
+        right = rw (← is) (right s t (length ss) (length cs) a said sound);
+        empty = rw (← is) (empty s t (length ss) (length cs));
+      }
+
+  -- of a pair that is refused nothing is handed back
+  pub pick_refused :
+      (e : Refusal)
+      → refuses (fault_of e) ≡ comparison s t (length ss) (length cs)
+      → (ss' ≡ ss) × (cs' ≡ cs)
+      → PickMet s t ss cs ss' cs' p q p []
+  pick_refused e said kept = picks (Err e) nothing said kept (picked_nothing s t (length ss) (length cs) (fault_of e) (sym said))
+
+  -- of a pair that was compared, one list's own bytes
+  module _
+      (c : Compared)
+      (said : says (result_of c.outcome) ≡ comparison s t (length ss) (length cs))
+      (kept : (ss' ≡ left_by set_words (says (result_of c.outcome)) ss) × (cs' ≡ left_by places (says (result_of c.outcome)) cs))
+      (lists : ComparedRead s t c)
+      {part part' : List ℕ}
+      (first : part ≡ take (gate_size * c.g) (drop head_size s))
+      (second : part' ≡ take (gate_size * c.h) (drop head_size t))
+    where
+      -- whether the second is taken says which
+      taken : {b : Bool} → b ≡ (is_equal (verdict_of c.outcome.verdict) && better (gates_in part) (gates_in part'))
+          → picked s t (length ss) (length cs) ≡ cond b the_second the_first
+      taken answer =
+          picked_by s t (length ss) (length cs) lists.n lists.first.gates lists.second.gates (result_of c.outcome) _
+          (record { reads_first = lists.first.reads; reads_second = lists.second.reads })
+          (sym said)
+          (rw (first, second, gates_of lists.first, gates_of lists.second) at answer)
+
+      pub pick_first : {r : B} {out : List ℕ}
+          → false ≡ (is_equal (verdict_of c.outcome.verdict) && better (gates_in part) (gates_in part'))
+          → out ≡ take (size c.g) s
+          → r ≡ p
+          → PickMet s t ss cs ss' cs' p q r out
+      pick_first answer content own = rw (content, own, own_of lists.first) (picks (Ok c.outcome) the_first said kept (taken answer))
+
+      pub pick_second : {r : B} {out : List ℕ}
+          → true ≡ (is_equal (verdict_of c.outcome.verdict) && better (gates_in part) (gates_in part'))
+          → out ≡ take (size c.h) t
+          → r ≡ q
+          → PickMet s t ss cs ss' cs' p q r out
+      pick_second answer content own = rw (content, own, own_of lists.second) (picks (Ok c.outcome) the_second said kept (taken answer))

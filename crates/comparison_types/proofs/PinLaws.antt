@@ -1,12 +1,13 @@
 -- Laws behind pinning: one qubit pinned, free or blocked, as the definition has it, and how far the loop over the qubits has
 -- come.
 -- Assumes nothing.
-use mathlib.Core.Path.{◌≡◌, refl, sym, ◌∙◌}
+use mathlib.Core.Path.{◌≡◌, refl, sym, ap, ◌∙◌}
 use Prim.Native.Nat.{ℕ, suc, ◌+◌, ◌-◌, ◌<◌, ◌≤◌}
 use native.Mathlib.Numerals.{add-one}
 use native.Mathlib.Omega.{arith}
-use mathlib.Core.Bool.{Bool, true, false, cond, not}
+use mathlib.Core.Bool.{true, false}
 use mathlib.Core.Option.{none, some}
+use Rattle.std.specs.Prelude.{Some}
 use lib.ListN.{length}
 use Rattle.amplitude.proofs.BitLaws.{bit_zero}
 use Rattle.amplitude.proofs.XorLaws.{xor_falseʳ}
@@ -20,13 +21,13 @@ use Rattle.phase_sum_types.specs.Workspace.{set_of, parity_of, Lent, members, su
 use Rattle.phase_sum_types.specs.declared.Parity.{Parity as ParityWord}
 use Rattle.phase_sum_types.specs.declared.Sum.{Sum}
 use Rattle.phase_sum_types.proofs.Members.{member_held}
-use Rattle.phase_sum_types.proofs.Running.{AsLong, long_after}
+use Rattle.phase_sum_types.proofs.Running.{AsLong}
 use Rattle.phase_sum_types.proofs.Changing.{room-replace, still_sized}
 use Rattle.comparison_meaning.specs.Reduction as reduction
-use Rattle.comparison_meaning.specs.Reduction.{add_pin, is_zero, mismatch, pin_from, pinned}
-use Rattle.comparison_types.specs.Inner.{counts_of, no_steps, blocked_by, end_of, CountedTo, PinnedQubit, PinnedAll}
+use Rattle.comparison_meaning.specs.Reduction.{add_pin, is_zero, mismatch, pin_from, pinned, blocks}
+use Rattle.comparison_types.specs.Inner.{counts_of, no_steps, stops_at, CountedTo, PinsQubit, BlocksQubit, PinnedAll}
 use Rattle.comparison_types.specs.declared.Counts.{Counts}
-use Rattle.comparison_types.specs.declared.End.{End}
+use Rattle.comparison_types.specs.declared.Progress.{Progress}
 
 -- a wire with input q added
 pub with_input :
@@ -48,119 +49,137 @@ pin_found :
 unfolding pin_from
 pin_found m q z p s c is e = rw is (rw (rw is at e, pin_from))
 
--- where none is, the sum stays if the mismatch is constantly 0, and is blocked if not
+-- where none is, the sum stays if the mismatch is constantly 0
 pin_free :
-    (m q : ℕ) (p : Parity) (s : PathSum) (c : reduction.Counts) (b : Bool) →
+    (m q : ℕ) (p : Parity) (s : PathSum) (c : reduction.Counts) →
     p ≡ mismatch 0 q s →
     first_in s.live p.vars ≡ none →
-    is_zero p ≡ b →
-    pin_from 0 (suc m) q s c
-    ≡ cond (not b) (record { blocked_by = blocked_by (not b) p; sum = s; counts = c }) (pin_from 0 m (suc q) s c)
+    is_zero p ≡ true →
+    pin_from 0 (suc m) q s c ≡ pin_from 0 m (suc q) s c
 unfolding pin_from
-pin_free m q p s c true is e z = rw (rw is at e, pin_from) (rw (rw is at z))
-pin_free m q p s c false is e z = rw is (rw (rw is at e, pin_from) (rw (rw is at z)))
+pin_free m q p s c is e z = rw (rw is at e, pin_from) (rw (rw is at z))
+
+-- and is blocked if not
+pin_stuck :
+    (m q : ℕ) (p : Parity) (s : PathSum) (c : reduction.Counts) →
+    p ≡ mismatch 0 q s →
+    first_in s.live p.vars ≡ none →
+    is_zero p ≡ false →
+    pin_from 0 (suc m) q s c ≡ blocks p s c
+unfolding pin_from
+pin_stuck m q p s c is e z = rw is (rw (rw is at e, pin_from) (rw (rw is at z)))
 
 -- a qubit pinned by its mismatch w, which holds the variable z
 pub pinned-found :
-    (q z : ℕ) (w v : ParityWord) (s : Sum) (c d : Counts) (r : Sum) {m : ℕ} {l l' : Lent} →
+    (q z : ℕ) (w v : ParityWord) (p : Progress) (r : Sum) (d : Counts) {m : ℕ} {l l' : Lent} →
     q < length l.wires →
-    c.pins ≤ q →
-    Sized s l →
-    parity_of w ≡ mismatch 0 q (sum_of s l) →
-    first_in (members (set_of s.live)) (set_of w.set) ≡ some z →
+    p.counts.pins ≤ q →
+    Sized p.sum l →
+    parity_of w ≡ mismatch 0 q (sum_of p.sum l) →
+    first_in (members (set_of p.sum.live)) (set_of w.set) ≡ some z →
     parity_of v ≡ rest z (parity_of w) →
-    Became (replace z (parity_of v) (sum_of s l)) m r l l' →
+    Became (replace z (parity_of v) (sum_of p.sum l)) m r l l' →
     AsLong l l' →
-    d ≡ record { pins = c.pins + 1; sums = c.sums; turns = c.turns; joins = c.joins } →
-    PinnedQubit q s c (record { blocked = false; by = w; sum = r; counts = d }) l l'
+    counts_of d ≡ add_pin (counts_of p.counts) →
+    PinsQubit q p (record { sum = r; counts = d }) l l'
 unfolding add_pin
-pinned-found q z w v s c d r {l = l} {l' = l'} h few sized is e v-is became long d-is =
-    rw d-is
-    (record {
-      steps = λ m. pin_found m q z (parity_of w) (sum_of s l) (counts_of c) is e ∙ rw (← v-is, ← became.sum, add-one);
-      sized = still_sized s _ r l l' sized (room-replace z (parity_of v) (sum_of s l)) became long;
-      pins = omega arith;
-      others = λ f. record { pins = omega (arith, sized.few); sums = f.sums; turns = f.turns; joins = f.joins };
-    })
-
--- a qubit whose mismatch w holds no variable left
-pub pinned_free :
-    (q : ℕ) (w : ParityWord) (b : Bool) (s : Sum) (c : Counts) {l : Lent} →
-    c.pins ≤ q →
-    Sized s l →
-    parity_of w ≡ mismatch 0 q (sum_of s l) →
-    first_in (members (set_of s.live)) (set_of w.set) ≡ none →
-    b ≡ is_zero (parity_of w) →
-    PinnedQubit q s c (record { blocked = not b; by = w; sum = s; counts = c }) l l
-pinned_free q w b s c {l} few sized is e b-is =
+pinned-found q z w v p r d {l = l} {l' = l'} h few sized is e v-is became long counted =
+    let pins = ap (λ (c : reduction.Counts). c.pins) counted in
+    let sums = ap (λ (c : reduction.Counts). c.sums) counted in
+    let turns = ap (λ (c : reduction.Counts). c.turns) counted in
+    let joins = ap (λ (c : reduction.Counts). c.joins) counted in
     record {
-      steps = λ m. pin_free m q (parity_of w) (sum_of s l) (counts_of c) b is e (sym b-is);
-      sized = sized;
+      steps = λ m. pin_found m q z (parity_of w) (sum_of p.sum l) (counts_of p.counts) is e ∙ rw (← v-is, ← became.sum, counted);
+      sized = still_sized p.sum _ r l l' sized (room-replace z (parity_of v) (sum_of p.sum l)) became long;
+      wires = long.wires;
       pins = omega arith;
-      others = λ f. f;
+      others = λ f. record {
+        pins = omega (arith, sized.few);
+        sums = omega (arith, f.sums);
+        turns = omega (arith, f.turns);
+        joins = omega (arith, f.joins);
+      };
     }
 
--- pinning the sum s has come to qubit q: the end e is not blocked, and pinning what is left of it pins the whole
-pub record PinnedTo (q : ℕ) (s : Sum) (e : End) (l l' : Lent) : Type 0 where
+-- a qubit whose mismatch w holds no variable left
+module _
+    (q : ℕ) (w : ParityWord) (p : Progress) {l : Lent} (few : p.counts.pins ≤ q) (sized : Sized p.sum l)
+    (is : parity_of w ≡ mismatch 0 q (sum_of p.sum l)) (nothing : first_in (members (set_of p.sum.live)) (set_of w.set) ≡ none)
+  where
+    -- is pinned already where the mismatch is constantly 0
+    pub pinned_free : true ≡ is_zero (parity_of w) → PinsQubit q p p l l
+    pinned_free zero =
+        record {
+          steps = λ m. pin_free m q (parity_of w) (sum_of p.sum l) (counts_of p.counts) is nothing (sym zero);
+          sized = sized;
+          wires = refl;
+          pins = omega arith;
+          others = λ f. f;
+        }
+
+    -- and else blocked
+    pub pinned_stuck : false ≡ is_zero (parity_of w) → BlocksQubit q p w l l
+    pinned_stuck other =
+        record {
+          ends = λ m. pin_stuck m q (parity_of w) (sum_of p.sum l) (counts_of p.counts) is nothing (sym other);
+          same = refl;
+        }
+
+-- pinning the sum s has come to qubit q at p, not blocked, and pinning what is left of it pins the whole
+pub record PinnedTo (q : ℕ) (s : Sum) (p : Progress) (l l' : Lent) : Type 0 where
   pub within : q ≤ length l.wires
-  pub free : e.blocked ≡ false
   pub left :
-      pinned 0 (length l.wires) (sum_of s l) ≡ pin_from 0 (length l.wires - q) q (sum_of e.sum l') (counts_of e.counts)
-  pub sized : Sized e.sum l'
-  pub pins : e.counts.pins ≤ q
-  pub steps : CountedTo 0 e.counts
-  pub long : AsLong l l'
+      pinned 0 (length l.wires) (sum_of s l) ≡ pin_from 0 (length l.wires - q) q (sum_of p.sum l') (counts_of p.counts)
+  pub sized : Sized p.sum l'
+  pub pins : p.counts.pins ≤ q
+  pub steps : CountedTo 0 p.counts
+  pub wires : length l'.wires ≡ length l.wires
 
 -- before the first qubit
 pub none_pinned :
-    (s : Sum) (w : ParityWord) {l : Lent} → Sized s l → PinnedTo 0 s (record { blocked = false; by = w; sum = s; counts = no_steps }) l l
-none_pinned s w {l} sized =
+    (s : Sum) {l : Lent} → Sized s l → PinnedTo 0 s (record { sum = s; counts = no_steps }) l l
+none_pinned s {l} sized =
     let whole : length l.wires - 0 ≡ length l.wires = omega arith in
     record {
       within = omega arith;
-      free = refl;
       left = rw whole;
       sized = sized;
       pins = omega arith;
       steps = record { pins = omega arith; sums = omega arith; turns = omega arith; joins = omega arith };
-      long = record { wires = refl; flips = refl; sets = refl; coeffs = refl };
+      wires = refl;
     }
 
 module _
-    (q : ℕ) (s : Sum) (e f : End) {l l₁ l₂ : Lent} (h : q < length l.wires) (to : PinnedTo q s e l l₁)
-    (one : PinnedQubit q e.sum e.counts f l₁ l₂)
+    (q : ℕ) (s : Sum) (p : Progress) {l l₁ : Lent} (h : q < length l.wires) (to : PinnedTo q s p l l₁)
   where
-    -- the whole, by qubit q pinned and the others to come
-    one_left :
-        pinned 0 (length l.wires) (sum_of s l)
-        ≡ cond f.blocked (end_of f l₂)
-        (pin_from 0 (length l.wires - (q + 1)) (q + 1) (sum_of f.sum l₂) (counts_of f.counts))
-    one_left =
-        let more : length l.wires - q ≡ suc (length l.wires - (q + 1)) = omega arith in
-        to.left ∙ rw (more, add-one) (one.steps _)
+    -- the qubits that are left are q and those behind it
+    more : length l.wires - q ≡ suc (length l.wires - (q + 1))
+    more = omega arith
 
-    -- where qubit q is not blocked, pinning has come one further
-    pub more_pinned : f.blocked ≡ false → AsLong l₁ l₂ → PinnedTo (q + 1) s f l l₂
-    more_pinned free long =
+    -- where qubit q is pinned, pinning has come one further
+    pub more_pinned : {r : Progress} {l₂ : Lent} → PinsQubit q p r l₁ l₂ → PinnedTo (q + 1) s r l l₂
+    more_pinned one =
         record {
           within = omega arith;
-          free = free;
-          left = rw free at one_left;
+          left = to.left ∙ rw (more, add-one) (one.steps _);
           sized = one.sized;
           pins = one.pins;
           steps = one.others to.steps;
-          long = long_after to.long long;
+          wires = one.wires ∙ to.wires;
         }
 
-    -- where it is, pinning ends
-    pub pinned_blocked : f.blocked ≡ true → PinnedAll s f l l₂
-    pinned_blocked stuck =
-        record { end = rw stuck (sym (rw stuck at one_left)); sized = one.sized; steps = one.others to.steps }
+    -- where it is blocked, pinning ends
+    pub pinned_blocked : {w : ParityWord} {l₂ : Lent} → BlocksQubit q p w l₁ l₂ → PinnedAll s (record { blocked = Some w; reached = p }) l l₂
+    pinned_blocked one =
+        record {
+          end = rw one.same (sym (to.left ∙ rw more (one.ends _)));
+          sized = rw one.same to.sized;
+          steps = to.steps;
+        }
 
 -- behind the last qubit pinning ends
-pub all_pinned :
-    (q : ℕ) (s : Sum) (e : End) {l l' : Lent} → length l.wires ≤ q → PinnedTo q s e l l' → PinnedAll s e l l'
+pub all_pinned : (q : ℕ) (s : Sum) (p : Progress) {l l' : Lent} → length l.wires ≤ q → PinnedTo q s p l l' → PinnedAll s (stops_at p) l l'
 unfolding pin_from
-all_pinned q s e {l} h to =
+all_pinned q s p {l} h to =
     let none_left : length l.wires - q ≡ 0 = omega arith in
-    record { end = rw to.free (sym (rw none_left at to.left)); sized = to.sized; steps = to.steps }
+    record { end = sym (rw none_left at to.left); sized = to.sized; steps = to.steps }

@@ -6,9 +6,10 @@ use Prim.Native.Nat.{ℕ, zero, suc, ◌+◌, ◌-◌, ◌%◌, ◌^◌, ◌<◌
 use native.Mathlib.Nat.{zero-add, add-zero, suc-add, add_assoc, eq-or-lt_of_le}
 use native.Mathlib.Numerals.{add-one}
 use native.Mathlib.Omega.{arith}
-use mathlib.Core.Bool.{Bool, true, false, not}
+use mathlib.Core.Bool.{Bool, true, false, not, false≢true, true≢false}
 use mathlib.Core.Option.{Option, none, some, none-ne-some, some-ne-none}
-use mathlib.Core.List.{List, [], ◌∷◌, ◌++◌, map, map-id, map-map, map-append}
+use Rattle.std.specs.Prelude.{Option as Found, Some, None, is_some}
+use mathlib.Core.List.{List, [], ◌∷◌, ◌++◌, map-id, map-map, map-append}
 use lib.Dec.{eqb}
 use lib.Pow.{pow-lt}
 use Rattle.amplitude.proofs.BitLaws.{bit_zero}
@@ -16,7 +17,8 @@ use Rattle.phase_sum_meaning.specs.Sets.{first_such}
 use Rattle.phase_sum_meaning.specs.Phase.{Phase, phase_at}
 use Rattle.comparison_meaning.specs.Verdict.{weight, candidates, first_differing}
 use Rattle.comparison_meaning.proofs.Weight.{sum_zero}
-use Rattle.comparison_types.specs.Inner.{input_of, AgreesToTwo}
+use Rattle.phase_sum_types.specs.Workspace.{found_of}
+use Rattle.comparison_types.specs.Inner.{beside, first_beside, AgreesToTwo}
 
 -- one qubit of sixteen alone
 pub power_small : (i : ℕ) → i < 16 → 2 ^ i < 65536
@@ -30,12 +32,6 @@ differing φ v = not (eqb (phase_at φ v % 8) (phase_at φ 0 % 8))
 pub differs_from : (φ : Phase) (v r : ℕ) → r ≡ phase_at φ v % 8 → not (eqb r (φ.constant % 8)) ≡ differing φ v
 unfolding phase_at
 differs_from φ v r e = rw (e, sum_zero φ.terms, add-zero φ.constant)
-
--- an answer that is not 0 is found
-input-found : (x : ℕ) → 0 < x → input_of x ≡ some x
-unfolding input_of
-input-found zero l = absurd (omega arith)
-input-found (suc x) l = refl
 
 -- none in a first list: the search goes on in the second
 after_none : (φ : Phase) (us vs : List ℕ) → first_differing φ us ≡ none → first_differing φ (us ++ vs) ≡ first_differing φ vs
@@ -79,28 +75,19 @@ none_right φ us vs e = sym (after_none φ us vs (none_left φ us vs e)) ∙ e
 
 -- an answer found in a first list is the answer
 first_left :
-    (φ : Phase) (us vs : List ℕ) (x : ℕ) → (x ≡ 0 → ⊥) → input_of x ≡ first_differing φ us → input_of x ≡ first_differing φ (us ++ vs)
-first_left φ us vs x l h =
-    let found : input_of x ≡ some x = input-found x (omega arith) in
-    found ∙ sym (found_left φ us vs x (sym h ∙ found))
+    (φ : Phase) (us vs : List ℕ) (o : Found ℕ) → true ≡ is_some o → found_of o ≡ first_differing φ us → found_of o ≡ first_differing φ (us ++ vs)
+first_left φ us vs (Some x) l h = sym (found_left φ us vs x (sym h))
+first_left φ us vs None l h = absurd (true≢false l)
 
--- an answer of 0 is none
-answer_zero : (φ : Phase) (us : List ℕ) (x : ℕ) → x ≡ 0 → input_of x ≡ first_differing φ us → first_differing φ us ≡ none
-unfolding input_of
-answer_zero φ us x z h = sym (rw z at h)
-
--- the inputs with k of the first n qubits, beside those of w
-unfoldable beside : ℕ → ℕ → ℕ → List ℕ
-beside w k n = map (λ v. w + v) (weight 0 k n)
+-- where there is none, the list has none
+answer_nothing : (φ : Phase) (us : List ℕ) (o : Found ℕ) → false ≡ is_some o → found_of o ≡ first_differing φ us → first_differing φ us ≡ none
+answer_nothing φ us (Some x) z h = absurd (false≢true z)
+answer_nothing φ us None z h = sym h
 
 -- one qubit more: without it, then with it
 beside_more : (w u k i : ℕ) → u ≡ w + 2 ^ i → beside w (suc k) (suc i) ≡ beside w (suc k) i ++ beside u k i
 unfolding beside weight
 beside_more w u k i e = rw (bit_zero i, map-append, map-map, e) (simp add_assoc)
-
--- the first of them that differs
-pub first_beside : Phase → ℕ → ℕ → ℕ → Option ℕ
-first_beside φ w k n = first_differing φ (beside w k n)
 
 -- beside none: the inputs of weight k
 pub beside_none : (φ : Phase) (k n : ℕ) → first_beside φ 0 k n ≡ first_differing φ (weight 0 k n)
@@ -108,13 +95,12 @@ unfolding first_beside beside
 beside_none φ k n = simp (zero-add, map-id)
 
 -- the answer where all are passed
-pub answer_none : (φ : Phase) (k n i : ℕ) → i ≡ n → first_beside φ 0 k i ≡ none → input_of 0 ≡ first_differing φ (weight 0 k n)
-unfolding input_of
-answer_none φ k n i e h = rw (← e, ← beside_none φ k i, h)
+pub answer_none : (φ : Phase) (k n i : ℕ) → n ≡ i → first_beside φ 0 k i ≡ none → none ≡ first_differing φ (weight 0 k n)
+answer_none φ k n i e h = rw e (sym h ∙ beside_none φ k i)
 
 -- the answer where one is found
-pub answer_found : (φ : Phase) (k n x : ℕ) → 0 < x → first_beside φ 0 k n ≡ some x → input_of x ≡ first_differing φ (weight 0 k n)
-answer_found φ k n x l h = input-found x l ∙ (sym h ∙ beside_none φ k n)
+pub answer_found : (φ : Phase) (k n x : ℕ) → first_beside φ 0 k n ≡ some x → some x ≡ first_differing φ (weight 0 k n)
+answer_found φ k n x h = sym h ∙ beside_none φ k n
 
 -- no qubit more: passed where it is the same
 pub pass_itself : (φ : Phase) (w n : ℕ) → differing φ w ≡ false → first_beside φ w 0 n ≡ none
@@ -192,32 +178,32 @@ passed_each φ w k (suc n) i l h =
     go parts ih (inr b) = ih (omega arith) (none_left φ (beside w (suc k) n) _ parts)
 
 -- the answers of weight 1, then 2, then 3
-module _ (φ : Phase) (n one : ℕ) (first : input_of one ≡ first_differing φ (weight 0 1 n)) where
+module _ (φ : Phase) (n : ℕ) (one : Found ℕ) (first : found_of one ≡ first_differing φ (weight 0 1 n)) where
   -- one of weight 1 is the answer
-  pub first_of_one : (one ≡ 0 → ⊥) → input_of one ≡ first_differing φ (candidates 0 n)
+  pub first_of_one : true ≡ is_some one → found_of one ≡ first_differing φ (candidates 0 n)
   first_of_one l =
       first_left φ (weight 0 1 n ++ weight 0 2 n) (weight 0 3 n) one l (first_left φ (weight 0 1 n) (weight 0 2 n) one l first)
 
   -- where there is none of weight 1
-  module _ (zero_one : one ≡ 0) (two : ℕ) (second : input_of two ≡ first_differing φ (weight 0 2 n)) where
+  module _ (zero_one : false ≡ is_some one) (two : Found ℕ) (second : found_of two ≡ first_differing φ (weight 0 2 n)) where
     -- the answer of weights 1 and 2 is that of weight 2
-    both : input_of two ≡ first_differing φ (weight 0 1 n ++ weight 0 2 n)
-    both = second ∙ sym (after_none φ (weight 0 1 n) (weight 0 2 n) (answer_zero φ (weight 0 1 n) one zero_one first))
+    both : found_of two ≡ first_differing φ (weight 0 1 n ++ weight 0 2 n)
+    both = second ∙ sym (after_none φ (weight 0 1 n) (weight 0 2 n) (answer_nothing φ (weight 0 1 n) one zero_one first))
 
     -- one of weight 2 is the answer
-    pub first_of_two : (two ≡ 0 → ⊥) → input_of two ≡ first_differing φ (candidates 0 n)
+    pub first_of_two : true ≡ is_some two → found_of two ≡ first_differing φ (candidates 0 n)
     first_of_two l = first_left φ (weight 0 1 n ++ weight 0 2 n) (weight 0 3 n) two l both
 
     -- where there is none of weight 2 either
-    module _ (zero-two : two ≡ 0) where
+    module _ (zero-two : false ≡ is_some two) where
       -- no input of weight 1 or 2 differs
       pub agreed : AgreesToTwo φ n
-      agreed = (answer_zero φ (weight 0 1 n) one zero_one first, answer_zero φ (weight 0 2 n) two zero-two second)
+      agreed = (answer_nothing φ (weight 0 1 n) one zero_one first, answer_nothing φ (weight 0 2 n) two zero-two second)
 
       -- the answer is that of weight 3
-      pub first_of_three : (x : ℕ) → input_of x ≡ first_differing φ (weight 0 3 n) → input_of x ≡ first_differing φ (candidates 0 n)
-      first_of_three x third =
+      pub first_of_three : {o : Option ℕ} → o ≡ first_differing φ (weight 0 3 n) → o ≡ first_differing φ (candidates 0 n)
+      first_of_three third =
           third
           ∙ sym
           (after_none φ (weight 0 1 n ++ weight 0 2 n) (weight 0 3 n)
-          (answer_zero φ (weight 0 1 n ++ weight 0 2 n) two zero-two both))
+          (answer_nothing φ (weight 0 1 n ++ weight 0 2 n) two zero-two both))

@@ -1,14 +1,13 @@
 -- The cases of a step and of the reduction: what the code's tests, finds and changes come to by their definitions.
 -- Assumes nothing.
 use mathlib.Core.Path.{◌≡◌, refl, sym, ap, ◌∙◌}
-use Prim.Native.Nat.{ℕ, zero, suc, ◌+◌, ◌-◌, ◌%◌, ◌≤◌, ◌<◌}
-use mathlib.Core.Bool.{Bool, true, false, not, cond}
+use Prim.Native.Nat.{ℕ, zero, suc, ◌+◌, ◌-◌, ◌≤◌, ◌<◌}
+use mathlib.Core.Bool.{Bool, true, not}
 use mathlib.Core.List.{List, [], ◌∷◌}
 use mathlib.Core.Option.{Option, none, some}
+use Rattle.std.specs.Prelude.{Some}
 use native.Mathlib.Omega.{arith}
 use lib.ListN.{length}
-use lib.Dec.{eqb}
-use borrow.Author.Tests.{eq-eqb, ne_eqb, eqb-true, eqb-false}
 use Rattle.amplitude.specs.Bits.{bit}
 use Rattle.phase_sum_meaning.specs.Sets.{first_such, first_in}
 use Rattle.phase_sum_meaning.specs.Phase.{Term, in_odd}
@@ -17,16 +16,14 @@ use Rattle.phase_sum_meaning.specs.Building.{PathSum}
 use Rattle.phase_sum_meaning.specs.Stepping.{Kind, sum, turn, constraint, kind_of, constrained, first_ready, out_of, replace, take_out, turned}
 use Rattle.phase_sum_meaning.specs.Room.{most_variables}
 use Rattle.phase_sum_meaning.proofs.VariableLaws.{first_such_some}
-use Rattle.phase_sum_types.specs.Workspace.{set_of, held, parity_of, Lent, members, found_of, sum_of, Sized}
+use Rattle.phase_sum_types.specs.Workspace.{set_of, held, Lent, members, sum_of, Sized}
 use Rattle.comparison_meaning.specs.Reduction.{add_sum, add_turn, add_join, goes, stuck, step_with, step_at, stops, blocks, reduce_from}
 use Rattle.comparison_meaning.specs.Reduction as reduction
-use Rattle.comparison_types.specs.declared.Counts.{Counts}
 use Rattle.phase_sum_types.specs.declared.Sum.{Sum}
-use Rattle.comparison_types.specs.declared.End.{End}
-use Rattle.phase_sum_types.specs.declared.Found.{Found}
-use Rattle.comparison_types.specs.Inner.{counts_of, Goes, next_of, CountedTo, step_to, Stays, ReducedTo}
+use Rattle.phase_sum_types.specs.declared.Parity.{Parity as ParityWord}
+use Rattle.comparison_types.specs.declared.Progress.{Progress}
+use Rattle.comparison_types.specs.Inner.{counts_of, stops_at, CountedTo, step_to, Steps, BlocksStep, ReducedTo}
 use Rattle.phase_sum_types.proofs.Members.{member_held, members-without, members_few}
-use Rattle.phase_sum_types.proofs.Running.{AsLong, long_after}
 
 -- tests that agree find the same number
 first_such_same : (f g : ℕ → Bool) → ((v : ℕ) → f v ≡ g v) → (vs : List ℕ) → first_such f vs ≡ first_such g vs
@@ -81,28 +78,6 @@ pub step_stuck :
 unfolding step_with
 step_stuck y k l s c e f = rw (e, f, step_with)
 
--- a turn: C is odd
-pub kind_turn : (k l : ℕ) → k % 2 ≡ 1 → kind_of k l ≡ turn
-unfolding kind_of
-kind_turn k l odd = rw (eq-eqb (k % 2) 1 odd)
-
--- a sum: C and L are nothing
-pub kind_sum : (k l : ℕ) → k ≡ 0 → l ≡ 0 → kind_of k l ≡ sum
-unfolding kind_of
-kind_sum k l nil empty = rw (nil, empty)
-
--- a constraint: neither
-pub kind_constraint : (k l : ℕ) → (k % 2 ≡ 1 → ⊥) → (k ≡ 0 → l ≡ 0 → ⊥) → kind_of k l ≡ constraint
-unfolding kind_of
-kind_constraint k l even more = rw (ne_eqb (k % 2) 1 even) (go (eqb k 0) refl (eqb l 0) refl)
-  where
-    go :
-        (b : Bool) → eqb k 0 ≡ b → (d : Bool) → eqb l 0 ≡ d →
-        cond (eqb k 0) (cond (eqb l 0) sum constraint) constraint ≡ constraint
-    go true e true f = absurd (more (eqb-true k 0 e) (eqb-true l 0 f))
-    go true e false f = rw (e, f)
-    go false e d f = rw e
-
 -- where L holds a variable left, the lowest of them is the z of the step
 pub step_chosen :
     (y k l : ℕ) (s : PathSum) (c : reduction.Counts) (z : ℕ) →
@@ -151,39 +126,15 @@ pub join_to :
 unfolding step_to
 join_to y z k l s c e = rw (e, step_to)
 
--- what is no constraint and has an even C is a sum
-pub kind_rest : (k l : ℕ) → (k % 2 ≡ 1 → ⊥) → (kind_of k l ≡ constraint → ⊥) → kind_of k l ≡ sum
-unfolding kind_of
-kind_rest k l even other = go (eqb k 0) refl (eqb l 0) refl
-  where
-    go : (b : Bool) → eqb k 0 ≡ b → (d : Bool) → eqb l 0 ≡ d → kind_of k l ≡ sum
-    go true e true f = kind_sum k l (eqb-true k 0 e) (eqb-true l 0 f)
-    go true e false f = absurd (other (kind_constraint k l even (λ h i. eqb-false l 0 f i)))
-    go false e d f = absurd (other (kind_constraint k l even (λ h i. eqb-false k 0 e h)))
-
--- a turn is no constraint
-pub turn_free : (k l : ℕ) → k % 2 ≡ 1 → kind_of k l ≡ constraint → ⊥
-turn_free k l odd e = apart (sym (kind_turn k l odd) ∙ e)
-  where
-    apart : turn ≡ constraint → ⊥
-    apart h = let z : ◌≡◌ {A = ℕ} 0 1 = cc in absurd (omega arith)
-
--- nor is a sum
-pub sum_free : (k l : ℕ) → k ≡ 0 → l ≡ 0 → kind_of k l ≡ constraint → ⊥
-sum_free k l nil empty e = apart (sym (kind_sum k l nil empty) ∙ e)
-  where
-    apart : sum ≡ constraint → ⊥
-    apart h = let z : ◌≡◌ {A = ℕ} 0 1 = cc in absurd (omega arith)
-
 -- the first variable left besides y, as the code finds it
 pub found_left :
-    (s : PathSum) (live y l w : ℕ) (f : Found) →
+    (s : PathSum) (live y l w : ℕ) {o : Option ℕ} →
     s.live ≡ members live →
     w ≡ out_of y live →
-    found_of f ≡ first_in (members w) l →
-    first_in (take_out y s).live l ≡ found_of f
+    o ≡ first_in (members w) l →
+    first_in (take_out y s).live l ≡ o
 unfolding take_out
-found_left s live y l w f left e h = rw (left, ← members-without live y, ← e) (sym h)
+found_left s live y l w left e h = rw (left, ← members-without live y, ← e) (sym h)
 
 -- counts after a step: no other pins, and at most one more of each other
 record OneMore (c d : reduction.Counts) : Type 0 where
@@ -244,132 +195,65 @@ unfolding reduce_from
 reduce_stuck m y s q c e h = rw (e, reduce_from, ← h)
 
 -- how many variables of a sum are left
-abbrev left_in : Sum → ℕ
+abbrev pub left_in : Sum → ℕ
 left_in s = length (members (set_of s.live))
 
 -- the first ready variable of a sum
 abbrev pub ready_in : Sum → Lent → Option ℕ
 ready_in s l = first_ready (members (set_of s.live)) (held s.phase.count l.sets l.coeffs)
 
--- the reduction of a sum where it stands at the end e: what of its steps is left, and how few steps it took
-pub record Going (s : Sum) (c : Counts) (l : Lent) (steps : ℕ) (e : End) (l' : Lent) (left : ℕ) : Type 0 where
-  pub later : reduce_from steps (sum_of s l) (counts_of c) ≡ reduce_from left (sum_of e.sum l') (counts_of e.counts)
-  pub free : e.blocked ≡ false
-  pub sized : Sized e.sum l'
-  pub few : CountedTo (steps - left) e.counts
-  pub within : left ≤ steps
-  pub most : steps ≤ most_variables
-  pub long : AsLong l l'
-
--- before the first step
-pub going_starts :
-    (s : Sum) (c : Counts) (e : End) {l : Lent} {steps : ℕ} →
-    Goes s c e →
-    steps ≡ left_in s →
-    CountedTo 0 c →
-    Sized s l →
-    Going e.sum e.counts l steps e l steps
-going_starts s c e start all few sized =
-    record {
-      later = refl;
-      free = start.free;
-      sized = rw start.sum sized;
-      few = rw start.counts (omega (arith, few));
-      within = omega arith;
-      most = rw all (members_few (set_of s.live));
-      long = record { wires = refl; flips = refl; sets = refl; coeffs = refl };
-    }
-
--- going from the first end is going from the sum, by as many steps as variables are left
-pub going_from :
-    {s : Sum} {c : Counts} (first : End) {l : Lent} {steps : ℕ} {e : End} {l' : Lent} {left : ℕ} →
-    Goes s c first →
-    steps ≡ left_in s →
-    Going first.sum first.counts l steps e l' left →
-    Going s c l (left_in s) e l' left
-going_from first start all g = rw (start.sum, start.counts, all) at g
-
--- and the other way round
-pub going_back :
-    {s : Sum} {c : Counts} (first : End) {l : Lent} {steps : ℕ} {e : End} {l' : Lent} {left : ℕ} →
-    Goes s c first →
-    steps ≡ left_in s →
-    Going s c l (left_in s) e l' left →
-    Going first.sum first.counts l steps e l' left
-going_back first start all g = rw (start.sum, start.counts, all) g
+-- the reduction of what p₀ reached, after so many steps at p: what is left of its steps, and how few of each kind it took
+pub record Going (p₀ : Progress) (l : Lent) (done : ℕ) (p : Progress) (l' : Lent) : Type 0 where
+  pub later :
+      reduce_from (left_in p₀.sum) (sum_of p₀.sum l) (counts_of p₀.counts)
+      ≡ reduce_from (left_in p₀.sum - done) (sum_of p.sum l') (counts_of p.counts)
+  pub sized : Sized p.sum l'
+  pub few : CountedTo done p.counts
+  pub within : done ≤ left_in p₀.sum
 
 -- few enough for one step more
-pub going_few :
-    {s : Sum} {c : Counts} {l : Lent} {steps : ℕ} {e : End} {l' : Lent} {left : ℕ} →
-    Going s c l steps e l' left →
-    CountedTo most_variables e.counts
-going_few g = omega (arith, g.few, g.most)
+pub going_few : {p₀ : Progress} {l : Lent} {done : ℕ} {p : Progress} {l' : Lent} → Going p₀ l done p l' → CountedTo most_variables p.counts
+going_few {p₀} g = omega (arith, g.few, g.within, members_few (set_of p₀.sum.live))
 
--- the reduction of s, which stands at the end e
-module _
-    (s : Sum)
-    (c : Counts)
-    (e : End)
-    (l l' : Lent)
-    (left : ℕ)
-    (going : Going s c l (left_in s) e l' left)
-  where
-    -- it ends here where it stops here
-    going_stops :
-        reduce_from left (sum_of e.sum l') (counts_of e.counts) ≡ stops (sum_of e.sum l') (counts_of e.counts) →
-        ReducedTo s c e l l'
-    going_stops done =
-        record { end = rw going.free (sym (going.later ∙ done)); sized = going.sized }
+-- the reduction, which stands at p
+module _ (p₀ : Progress) (p : Progress) (l l' : Lent) (done : ℕ) (going : Going p₀ l done p l') where
+  -- it ends here where it stops here
+  going_stops :
+      reduce_from (left_in p₀.sum - done) (sum_of p.sum l') (counts_of p.counts) ≡ stops (sum_of p.sum l') (counts_of p.counts) →
+      ReducedTo p₀ (stops_at p) l l'
+  going_stops over = record { end = sym (going.later ∙ over); sized = going.sized }
 
-    -- no step is left
-    pub going_spent : left ≤ 0 → ReducedTo s c e l l'
-    going_spent h = going_stops (reduce_spent left (sum_of e.sum l') (counts_of e.counts) h)
+  -- no step is left
+  pub going_spent : left_in p₀.sum ≤ done → ReducedTo p₀ (stops_at p) l l'
+  going_spent h = going_stops (reduce_spent (left_in p₀.sum - done) (sum_of p.sum l') (counts_of p.counts) (omega arith))
 
-    -- none is ready
-    pub going_idle : ready_in e.sum l' ≡ none → ReducedTo s c e l l'
-    going_idle n = going_stops (reduce_none left (sum_of e.sum l') (counts_of e.counts) n)
+  -- none is ready
+  pub going_idle : ready_in p.sum l' ≡ none → ReducedTo p₀ (stops_at p) l l'
+  going_idle n = going_stops (reduce_none (left_in p₀.sum - done) (sum_of p.sum l') (counts_of p.counts) n)
 
-    -- a step at y to the end f
-    module _
-        (y : ℕ)
-        (f : End)
-        (l'' : Lent)
-        (more : 1 ≤ left)
-        (ready : ready_in e.sum l' ≡ some y)
-        (next : next_of f l'' ≡ step_at y (sum_of e.sum l') (counts_of e.counts))
-        (sized : Sized f.sum l'')
-      where
-        -- the steps that are left are this one and those behind it
-        split : left ≡ suc (left - 1)
-        split = omega arith
+  -- a step at y
+  module _ (y : ℕ) (l'' : Lent) (more : done < left_in p₀.sum) (ready : ready_in p.sum l' ≡ some y) where
+    -- the steps that are left are this one and those behind it
+    split : left_in p₀.sum - done ≡ suc (left_in p₀.sum - (done + 1))
+    split = omega arith
 
-        -- it goes
-        pub going_on : f.blocked ≡ false → AsLong l' l'' → Going s c l (left_in s) f l'' (left - 1)
-        going_on free long =
-            let went : goes (sum_of f.sum l'') (counts_of f.counts) ≡ step_at y (sum_of e.sum l') (counts_of e.counts) =
-            rw free at next
-            in
-            let one = counted_step y _ _ _ _ _ _ went in
-            let now = reduce_goes (left - 1) y _ _ _ _ ready went in
-            record {
-              later = going.later ∙ rw (← split) at now;
-              free = free;
-              sized = sized;
-              few = omega (arith, one, going.few, going.within);
-              within = omega (arith, going.within);
-              most = going.most;
-              long = long_after going.long long;
-            }
+    -- it goes
+    pub going_on : {r : Progress} → Steps y p r l' l'' → Going p₀ l (done + 1) r l''
+    going_on {r} to =
+        let one = counted_step y _ _ _ _ _ _ to.next in
+        let now = reduce_goes (left_in p₀.sum - (done + 1)) y _ _ _ _ ready to.next in
+        record {
+          later = going.later ∙ rw (← split) at now;
+          sized = to.sized;
+          few = omega (arith, one, going.few);
+          within = omega arith;
+        }
 
-        -- it is blocked
-        pub going_blocked : f.blocked ≡ true → Stays e.sum e.counts f l' l'' → ReducedTo s c f l l''
-        going_blocked blocked stays =
-            let stopped : stuck (parity_of f.by) ≡ step_at y (sum_of e.sum l') (counts_of e.counts) = rw blocked at next in
-            let same = stays blocked in
-            let now = reduce_stuck (left - 1) y _ _ _ ready stopped in
-            record {
-              end =
-                  rw (blocked, same.0, same.1, same.2)
-                  (sym (going.later ∙ rw (← split) at now));
-              sized = sized;
-            }
+    -- it is blocked
+    pub going_blocked : {w : ParityWord} → BlocksStep y p w l' l'' → ReducedTo p₀ (record { blocked = Some w; reached = p }) l l''
+    going_blocked to =
+        let now = reduce_stuck (left_in p₀.sum - (done + 1)) y _ _ _ ready to.stuck in
+        record {
+          end = rw to.same (sym (going.later ∙ rw (← split) at now));
+          sized = rw to.same going.sized;
+        }

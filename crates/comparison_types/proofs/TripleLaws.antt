@@ -9,6 +9,7 @@ use native.Mathlib.Nat.{zero-add, add-zero, add_assoc, lt_trans, eq-or-lt_of_le,
 use native.Mathlib.Omega.{arith}
 use mathlib.Core.Bool.{Bool, true, false, cond}
 use mathlib.Core.List.{List, [], ◌∷◌}
+use mathlib.Core.Option.{none}
 use lib.Dec.{eqb}
 use lib.Pow.{pow-lt}
 use borrow.Author.Tests.{eqb-true, eqb-false, eq-eqb, ne_eqb, not-false}
@@ -21,7 +22,7 @@ use Rattle.phase_sum_types.specs.Inner.{OddMask, odd_both}
 use Rattle.phase_sum_types.proofs.Passes.{odd_bit, odd_both_none}
 use Rattle.comparison_meaning.specs.Verdict.{weight, first_differing}
 use Rattle.comparison_meaning.proofs.Weight.{holding, sum_zero, sum_with, sum_alone}
-use Rattle.comparison_types.specs.Inner.{input_of, AgreesToTwo}
+use Rattle.comparison_types.specs.Inner.{AgreesToTwo}
 use Rattle.comparison_types.proofs.SearchLaws.{differing, beside_none, pass_itself, passed_itself, pass_each, passed_each}
 
 -- a coefficient that counts for k is odd where the set of the odd term holds k
@@ -145,8 +146,7 @@ module _ (φ : Phase) (n : ℕ) (agrees : AgreesToTwo φ n) where
 
   -- so none of weight 3 differs where no variable is in a term of odd coefficient
   pub none_of_three :
-      (mask : ℕ) → mask ≡ 0 → OddMask mask φ.terms → input_of 0 ≡ first_differing φ (weight 0 3 n)
-  unfolding input_of
+      (mask : ℕ) → mask ≡ 0 → OddMask mask φ.terms → none ≡ first_differing φ (weight 0 3 n)
   none_of_three mask z odd =
       sym
       (pass_each φ 0 2 n (λ i l.

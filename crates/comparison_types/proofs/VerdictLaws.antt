@@ -3,8 +3,8 @@
 use mathlib.Core.Path.{◌≡◌, refl, sym}
 use mathlib.Core.Bool.{Bool, true, false}
 use mathlib.Core.List.{List, [], ◌∷◌, ◌++◌}
-use mathlib.Core.Option.{Option, none, some}
-use Prim.Native.Nat.{ℕ, zero, suc, ◌+◌, ◌-◌, ◌%◌, ◌^◌, ◌<◌, ◌≤◌}
+use mathlib.Core.Option.{none, some}
+use Prim.Native.Nat.{ℕ, ◌+◌, ◌-◌, ◌%◌, ◌^◌, ◌<◌, ◌≤◌}
 use native.Mathlib.Nat.{zero-add, mod-lt}
 use native.Mathlib.Omega.{arith}
 use lib.Count.{ones, ones_in}
@@ -24,7 +24,6 @@ use Rattle.comparison_meaning.specs.Reduction.{End, reduce_end}
 use Rattle.comparison_meaning.specs.Verdict.{candidates, first_differing, different, result, agreement, power, searched}
 use Rattle.comparison_meaning.proofs.Weight.{search_some}
 use Rattle.phase_sum_types.specs.Workspace.{members}
-use Rattle.comparison_types.specs.Inner.{input_of}
 use Rattle.phase_sum_types.proofs.Members.{length-members, members_none}
 use Rattle.phase_sum_types.proofs.Windows.{from_split}
 
@@ -55,21 +54,9 @@ lowest_below n s l =
     (λ v a. bit_above n v (s % 2 ^ n) (mod-lt s (pow_pos n)) (from-among n (most_variables - n) a).0)
     )
 
--- what a search found that did not answer 0
-input-found : (r : ℕ) (o : Option ℕ) → input_of r ≡ o → (r ≡ 0 → ⊥) → o ≡ some r
-unfolding input_of
-input-found zero o e ne = absurd (ne refl)
-input-found (suc r) o e ne = sym e
-
--- and one that did
-input_none : (r : ℕ) (o : Option ℕ) → input_of r ≡ o → r ≡ 0 → o ≡ none
-unfolding input_of
-input_none zero o e z = sym e
-input_none (suc r) o e z = absurd (omega arith)
-
 -- an input found on at most 16 qubits is below 2^16
-pub input-below : (n r : ℕ) (φ : Phase) → n ≤ 16 → input_of r ≡ first_differing φ (candidates 0 n) → (r ≡ 0 → ⊥) → r < 2 ^ 16
-input-below n r φ l e ne = omega (arith, search_some 0 n r φ (input-found r _ e ne), pow_mono {i = n} {j = 16} l)
+pub input-below : (n r : ℕ) (φ : Phase) → n ≤ 16 → some r ≡ first_differing φ (candidates 0 n) → r < 2 ^ 16
+input-below n r φ l found = omega (arith, search_some 0 n r φ (sym found), pow_mono {i = n} {j = 16} l)
 
 -- the verdict on n qubits where no variable is left
 module _ (n : ℕ) (e : End) where
@@ -80,17 +67,17 @@ module _ (n : ℕ) (e : End) where
 
   -- different, where the search found an input
   pub searched-found :
-      (r : ℕ) → e.counts.pins ≡ e.counts.sums → input_of r ≡ first_differing e.sum.phase (candidates 0 n) → (r ≡ 0 → ⊥) →
+      (r : ℕ) → e.counts.pins ≡ e.counts.sums → some r ≡ first_differing e.sum.phase (candidates 0 n) →
       searched 0 n e ≡ result different 0 r e
   unfolding searched
-  searched-found r even i ne = rw (eq-eqb e.counts.pins e.counts.sums even, input-found r _ i ne, searched)
+  searched-found r even found = rw (eq-eqb e.counts.pins e.counts.sums even, ← found, searched)
 
   -- equal or turned, where it found none
   pub searched_none :
-      (r : ℕ) → e.counts.pins ≡ e.counts.sums → input_of r ≡ first_differing e.sum.phase (candidates 0 n) → r ≡ 0 →
+      e.counts.pins ≡ e.counts.sums → none ≡ first_differing e.sum.phase (candidates 0 n) →
       searched 0 n e ≡ result (agreement (power e)) (power e) 0 e
   unfolding searched
-  searched_none r even i z = rw (eq-eqb e.counts.pins e.counts.sums even, input_none r _ i z, searched)
+  searched_none even nothing = rw (eq-eqb e.counts.pins e.counts.sums even, ← nothing, searched)
 
 -- a list of length 0
 length_nil : (us : List ℕ) → length us ≡ 0 → us ≡ []

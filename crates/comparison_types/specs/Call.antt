@@ -1,24 +1,25 @@
 -- What the public calls answer and what the lent workspaces hold afterwards: document 01, "Report, pick, builder" and "Where a call is
 -- turned down".
 -- Assumes nothing.
-use Rattle.std.specs.Prelude.{ℕ, ◌+◌, Bool, true, false, cond, not, ◌&&◌, ◌||◌, List, [], ◌∷◌, ◌++◌, length, take, drop, replicate, eqb, ltb}
+use Rattle.std.specs.Prelude.{◌≡◌, ℕ, ◌+◌, ◌≤◌, codes, Bool, true, false, cond, not, ◌&&◌, ◌||◌, List, [], ◌∷◌, ◌++◌, length, take, drop, replicate, eqb, ltb, Result as Returned, Ok, Err}
 use Rattle.std.proofs.Math.Option.{Option, none, some}
 use Rattle.record_format.specs.Gate.{Gate}
 use Rattle.record_format.specs.Row.{Row, first}
 use Rattle.record_format.specs.Reading.{Reading, accepted, refused, read, count, size}
 use Rattle.record_format.specs.Answer as list
+use Rattle.record_format.specs.Answer.{fields}
+use Rattle.record_format.specs.Format.{last_verdict}
+use Rattle.record_format.specs.declared.Report.{Report}
 use Rattle.record_format.specs.Pair.{PairFault, in_first, in_second, of_pair, number_in, pair_row}
 use Rattle.amplitude.specs.Circuit.{h_gates, t_gates}
 use Rattle.phase_sum_meaning.specs.Room.{most_variables, places, set_words}
 use Rattle.comparison_meaning.specs.Verdict as verdict
-use Rattle.comparison_meaning.specs.Verdict.{Result, numbered, compare}
+use Rattle.comparison_meaning.specs.Verdict.{Result, numbered, numbers, compare}
 use Rattle.comparison_types.specs.declared.Verdict.{Verdict}
 use Rattle.comparison_types.specs.declared.Verdict.TheVariants.{Equal, Different, Undecided, Turned}
 use Rattle.comparison_types.specs.declared.Outcome.{Outcome}
 use Rattle.comparison_types.specs.declared.Refusal.{Refusal}
 use Rattle.comparison_types.specs.declared.Refusal.TheVariants.{QubitsDiffer, TooManyVariables, BlockTooLarge, WorkspaceShort}
-use Rattle.comparison_types.specs.declared.Answer.{Answer}
-use Rattle.comparison_types.specs.declared.Answer.TheVariants.{Compared, Refused}
 
 -- what a refusal says: the list, the number and the index, or the pair's number
 abbrev pub fault_of : Refusal → PairFault
@@ -49,6 +50,13 @@ verdict_number Turned = 3
 abbrev pub verdict_of : Verdict → verdict.Verdict
 verdict_of v = numbered (verdict_number v)
 
+-- a verdict's word
+abbrev pub verdict_word : verdict.Verdict → List ℕ
+verdict_word verdict.equal = codes "equal"
+verdict_word verdict.different = codes "different"
+verdict_word verdict.undecided = codes "undecided"
+verdict_word verdict.turned = codes "turned"
+
 -- the result that an outcome stands for
 abbrev pub result_of : Outcome → Result
 result_of o =
@@ -63,10 +71,15 @@ result_of o =
       left = o.left;
     }
 
+-- the report of an outcome: the eight numbers of its result, and a verdict that the report's writer takes
+pub record Reports (o : Outcome) (r : Report) : Type 0 where
+  pub fields : fields r ≡ numbers (result_of o)
+  pub known : r.verdict ≤ last_verdict
+
 -- what an answer stands for
-abbrev pub said_of : Answer → Said
-said_of (Compared o) = says (result_of o)
-said_of (Refused r) = refuses (fault_of r)
+abbrev pub said_of : Returned Outcome Refusal → Said
+said_of (Ok o) = says (result_of o)
+said_of (Err r) = refuses (fault_of r)
 
 -- the table's rows for a pair of accepted lists on n and m qubits
 abbrev pub pair_rows : ℕ → ℕ → List Gate → List Gate → List (Row PairFault)

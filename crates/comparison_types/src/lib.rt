@@ -2,17 +2,18 @@
 // 01, "Reducing it", "Report, pick, builder" and "Where a call is turned down"; document 02, item 4. Licensees use `comparison`.
 #![tactic(auto)]
 
-ghost use Rattle.std.specs.Prelude.{◌≡◌, ◌≤◌};
-ghost use Rattle.record_format.specs.Format.{last_verdict};
-ghost use Rattle.record_format.specs.Answer.{fields};
-ghost use Rattle.comparison_meaning.specs.Verdict.{numbers, agreement};
-ghost use Rattle.comparison_types.specs.Call.{number_of, verdict_number, verdict_of, result_of};
+ghost use Rattle.std.specs.Prelude.{◌≡◌, ◌<◌, Some};
+ghost use Rattle.comparison_meaning.specs.Verdict.{agreement};
+ghost use Rattle.comparison_meaning.specs.Reduction.{add_pin, add_sum, add_turn, add_join};
+ghost use Rattle.comparison_types.specs.Call.{number_of, verdict_number, verdict_of, verdict_word, Reports};
+ghost use Rattle.comparison_types.specs.Inner.{counts_of};
 
 use phase_sum_types::{Parity, Sum};
 use record_format::Report;
+use std::fmt;
 
 // The four verdicts.
-#[derive(Clone, Copy)]
+#[derive(Clone, Copy, Debug, PartialEq, Eq)]
 pub enum Verdict {
     // all amplitudes agree exactly
     Equal,
@@ -26,7 +27,8 @@ pub enum Verdict {
 
 // What the comparison found: the verdict, two inputs and document 01's five counts. The inputs are those that a difference shows; of turned
 // the first is the power of ω, 1 to 7; else they are 0.
-#[derive(Clone, Copy)]
+// Stays: the eight fields of the report record, which licensees read by their names.
+#[derive(Clone, Copy, Debug, PartialEq, Eq)]
 pub struct Outcome {
     pub verdict: Verdict,
     pub first: u16,
@@ -39,7 +41,7 @@ pub struct Outcome {
 }
 
 // Why a pair is refused. specs/Call.antt gives each case the table's number and, for a list, the index of its gate.
-#[derive(Clone, Copy)]
+#[derive(Clone, Copy, Debug, PartialEq, Eq)]
 pub enum Refusal {
     // 1 to 7 and 13: the first list
     First(record_format::Refusal),
@@ -55,36 +57,54 @@ pub enum Refusal {
     WorkspaceShort,
 }
 
-// What the comparison answers.
-#[derive(Clone, Copy)]
-pub enum Answer {
-    Compared(Outcome),
-    Refused(Refusal),
-}
+// A refusal's number in the table.
+impl From<Refusal> for u8 {
+    ghost from_gives = { λ r number. number ≡ number_of r };
 
-// The number of a refusal.
-pub fn number(r: Refusal) -> u8
-    ensures { result ≡ number_of r }
-{
-    match r {
-        Refusal::First(refusal) => record_bytes::number(refusal),
-        Refusal::Second(refusal) => record_bytes::number(refusal),
-        Refusal::QubitsDiffer => 8,
-        Refusal::TooManyVariables => 9,
-        Refusal::BlockTooLarge => 14,
-        Refusal::WorkspaceShort => 10,
+    fn from(refusal: Refusal) -> u8 {
+        match refusal {
+            Refusal::First(refusal) | Refusal::Second(refusal) => refusal.into(),
+            Refusal::QubitsDiffer => 8,
+            Refusal::TooManyVariables => 9,
+            Refusal::BlockTooLarge => 14,
+            Refusal::WorkspaceShort => 10,
+        }
     }
 }
 
-// The number of a verdict.
-pub fn verdict_number(v: Verdict) -> u8
-    ensures { result ≡ verdict_number v }
-{
-    match v {
-        Verdict::Equal => 0,
-        Verdict::Different => 1,
-        Verdict::Undecided => 2,
-        Verdict::Turned => 3,
+// A verdict's number.
+impl From<Verdict> for u8 {
+    ghost from_gives = { λ v number. number ≡ verdict_number v };
+
+    fn from(verdict: Verdict) -> u8 {
+        match verdict {
+            Verdict::Equal => 0,
+            Verdict::Different => 1,
+            Verdict::Undecided => 2,
+            Verdict::Turned => 3,
+        }
+    }
+}
+
+impl Verdict {
+    // Its word.
+    pub fn word(self) -> &'static str
+        ensures { result.now ≡ verdict_word (verdict_of self) }
+    {
+        match self {
+            Verdict::Equal => "equal",
+            Verdict::Different => "different",
+            Verdict::Undecided => "undecided",
+            Verdict::Turned => "turned",
+        }
+    }
+}
+
+impl fmt::Display for Verdict {
+    ghost output = { λ v. Some (verdict_word (verdict_of v)) };
+
+    fn fmt<W: fmt::Write>(&self, f: &mut fmt::Formatter<W>) -> fmt::Result {
+        f.write_str(self.word())
     }
 }
 
@@ -99,25 +119,26 @@ pub fn agreement(j: u8) -> Verdict
 }
 
 // An outcome as the eight fields of the report record. Its verdict is one that the report's writer takes.
-pub fn report_of(o: Outcome) -> Report
-    ensures fields { fields result ≡ numbers (result_of o) }
-    ensures known { result.verdict ≤ last_verdict }
-{
-    let verdict = o.verdict;
-    Report {
-        verdict: verdict_number(verdict),
-        first: o.first,
-        second: o.second,
-        pins: o.pins,
-        sums: o.sums,
-        turns: o.turns,
-        joins: o.joins,
-        left: o.left,
+// Stays: field by field, since the record's verdict is a number and an outcome's is a case.
+impl From<Outcome> for Report {
+    ghost from_gives = { Reports };
+
+    fn from(o: Outcome) -> Report {
+        Report {
+            verdict: o.verdict.into(),
+            first: o.first,
+            second: o.second,
+            pins: o.pins,
+            sums: o.sums,
+            turns: o.turns,
+            joins: o.joins,
+            left: o.left,
+        }
     }
 }
 
 // How often each step was taken so far.
-#[derive(Clone, Copy)]
+#[derive(Clone, Copy, Default)]
 pub struct Counts {
     pub pins: u8,
     pub sums: u8,
@@ -125,29 +146,83 @@ pub struct Counts {
     pub joins: u8,
 }
 
-// Where pinning or reducing stands: blocked by a parity, or not.
+// Stays: a method for each count, since one for all would take the field as a function.
+impl Counts {
+    // One pin more.
+    #[tactic(auto, unfolding(comparison_meaning::specs::Reduction::add_pin))]
+    pub fn add_pin(self) -> Counts
+        requires { self.pins < 255 }
+        ensures { counts_of result ≡ add_pin (counts_of self) }
+    {
+        Counts {
+            pins: self.pins + 1,
+            ..self
+        }
+    }
+
+    // One sum more.
+    #[tactic(auto, unfolding(comparison_meaning::specs::Reduction::add_sum))]
+    pub fn add_sum(self) -> Counts
+        requires { self.sums < 255 }
+        ensures { counts_of result ≡ add_sum (counts_of self) }
+    {
+        Counts {
+            sums: self.sums + 1,
+            ..self
+        }
+    }
+
+    // One turn more.
+    #[tactic(auto, unfolding(comparison_meaning::specs::Reduction::add_turn))]
+    pub fn add_turn(self) -> Counts
+        requires { self.turns < 255 }
+        ensures { counts_of result ≡ add_turn (counts_of self) }
+    {
+        Counts {
+            turns: self.turns + 1,
+            ..self
+        }
+    }
+
+    // One join more.
+    #[tactic(auto, unfolding(comparison_meaning::specs::Reduction::add_join))]
+    pub fn add_join(self) -> Counts
+        requires { self.joins < 255 }
+        ensures { counts_of result ≡ add_join (counts_of self) }
+    {
+        Counts {
+            joins: self.joins + 1,
+            ..self
+        }
+    }
+}
+
+// How far pinning and reducing have come: the sum that is left, and the steps taken so far.
 #[derive(Clone, Copy)]
-pub struct End {
-    pub blocked: bool,
-    pub by: Parity,
+pub struct Progress {
     pub sum: Sum,
     pub counts: Counts,
 }
 
-// What the checks on a pair find: the qubits of both lists, the gates of the first and those of the second; or why it is refused.
+// Where pinning or reducing ends, and the parity that blocks it there, if one does.
 #[derive(Clone, Copy)]
-pub enum PairCheck {
-    Good { n: usize, g: usize, h: usize },
-    Refused(Refusal),
+pub struct End {
+    pub blocked: Option<Parity>,
+    pub reached: Progress,
 }
 
-// What comparing a pair gives: the outcome, the gates of the first list and those of the second; or why it is refused.
-#[derive(Clone, Copy)]
-pub enum Comparison {
-    Done {
-        outcome: Outcome,
-        g: usize,
-        h: usize,
-    },
-    Refused(Refusal),
+// What the checks on a pair find: the qubits of both lists, the gates of the first and those of the second.
+#[derive(Clone, Copy, Debug, PartialEq, Eq)]
+pub struct Pair {
+    pub n: usize,
+    pub g: usize,
+    pub h: usize,
+}
+
+// What comparing a pair gives: the outcome, the gates of the first list and those of the second.
+#[derive(Clone, Copy, Debug, PartialEq, Eq)]
+pub struct Compared {
+    pub outcome: Outcome,
+    pub g: usize,
+    pub h: usize,
 }

@@ -1,6 +1,6 @@
 // The dense comparison of two gate lists, as licensees call it: document 02, items 2 and 4. For blocks of at most six qubits with at most 60
 // H gates it says equal, turned or different and never undecided. It takes any bytes and any buffer, refuses by number what is bad, and then changes
-// nothing that it was lent. All that is public here is the call, an answer or its number, or a limit; verdicts and refusals are those of
+// nothing that it was lent. All that is public here is the call, its outcome or a limit; verdicts and refusals are those of
 // `comparison`.
 #![tactic(auto)]
 
@@ -10,21 +10,23 @@ ghost use Rattle.dense_types.specs.Clauses.{Exact, Sound, First, Inputs, Agrees}
 ghost use Rattle.dense_judging.specs.Judging.{finding_in};
 
 use comparison_types::agreement;
-pub use comparison_types::{Refusal, Verdict, number, verdict_number};
-pub use dense_checking::{BLOCK_H_GATES, BLOCK_QUBITS, BUFFER_SIZE};
-use dense_checking::{BlockCheck, check_call};
-use dense_judging::{Judged, judge};
-pub use dense_types::{Answer, Outcome};
+pub use comparison_types::{Refusal, Verdict};
+use dense_checking::check_call;
+pub use dense_checking::{BLOCK_H_GATES, BLOCK_QUBITS};
+use dense_judging::{Judged, Lists, judge};
+pub use dense_meaning::BUFFER_SIZE;
+pub use dense_types::Outcome;
 use record_reading::gate_bytes;
 
 // The outcome of what the columns show.
+// Stays: both types are of other crates, so that no From can stand here.
 fn outcome_of(judged: Judged) -> Outcome
     ensures { found_of result ≡ found (finding_in judged) }
 {
     match judged {
         Judged::Carried(j) => Outcome {
             verdict: agreement(j),
-            first: j as u16,
+            first: u16::from(j),
             second: 0,
         },
         Judged::Different(v) => Outcome {
@@ -37,7 +39,7 @@ fn outcome_of(judged: Judged) -> Outcome
 
 // Two lists compared, all columns of both: the verdict with its inputs, or why the pair is refused. Only the numbers that the comparison
 // may use are lent on.
-pub fn compare(first: &[u8], second: &[u8], buffer: &mut [i64]) -> Answer
+pub fn compare(first: &[u8], second: &[u8], buffer: &mut [i64]) -> Result<Outcome, Refusal>
     ensures steps { said_of result ≡ dense_comparison first.now second.now (length buffer.old) }
     ensures kept { buffer.new ≡ left_by (said_of result) buffer.old }
     ensures exact { Exact first.now second.now result }
@@ -46,24 +48,16 @@ pub fn compare(first: &[u8], second: &[u8], buffer: &mut [i64]) -> Answer
     ensures inputs { Inputs first.now second.now result }
     ensures agrees { Agrees first.now second.now result }
 {
-    match check_call(first, second, buffer.len()) {
-        BlockCheck::Refused(refusal) => Answer::Refused(refusal),
-        BlockCheck::Good {
-            n,
-            g,
-            h,
-            first_h,
-            second_h,
-        } => {
-            let judged = judge(
-                &mut buffer[..BUFFER_SIZE],
-                n,
-                gate_bytes(first, g),
-                gate_bytes(second, h),
-                first_h,
-                second_h,
-            );
-            Answer::Compared(outcome_of(judged))
-        }
-    }
+    let block = check_call(first, second, buffer.len())?;
+    let lists = Lists {
+        n: block.n,
+        first: gate_bytes(first, block.g),
+        second: gate_bytes(second, block.h),
+        h: block.first_h,
+        k: block.second_h,
+    };
+    let Some(numbers) = buffer.first_chunk_mut::<BUFFER_SIZE>() else {
+        unreachable!()
+    };
+    Ok(outcome_of(judge(numbers, lists)))
 }

@@ -14,31 +14,31 @@ use Rattle.comparison_types.specs.Inner.{AcceptedWith}
 use Rattle.dense_meaning.specs.Limits.{block_qubits, block_h_gates, buffer_size}
 use Rattle.dense_types.specs.Call.{block_rows}
 
-module _ {n g h : ℕ} {s t : List ℕ} (list : AcceptedWith n g s) (other : AcceptedWith n h t) (k : ℕ) where
-  -- n is theirs
-  own_n : qubits s ≡ n
-  own_n = (passed s n list.gates list.reads).1
+-- a list's qubits and gates are its own
+pub own_n : {n g : ℕ} {s : List ℕ} (list : AcceptedWith n g s) → qubits s ≡ n
+own_n {n} {g} {s} list = (passed s n list.gates list.reads).1
 
-  -- and the H gates are theirs
-  own_h : h_gates (gates s) + h_gates (gates t) ≡ h_gates list.gates + h_gates other.gates
-  own_h = rw ((passed s n list.gates list.reads).2, (passed t n other.gates other.reads).2)
+pub own_gates : {n g : ℕ} {s : List ℕ} (list : AcceptedWith n g s) → gates s ≡ list.gates
+own_gates {n} {g} {s} list = (passed s n list.gates list.reads).2
 
+module _ {n g : ℕ} {s : List ℕ} (list : AcceptedWith n g s) (t : List ℕ) (k : ℕ) where
   -- too many qubits
   pub too_wide : block_qubits < n → some (of_pair 14) ≡ first (block_rows s t k)
   unfolding first
-  too_wide wide = rw (own_n, lt-ltb block_qubits n wide)
+  too_wide wide = rw (own_n list, lt-ltb block_qubits n wide)
 
-  -- too many H gates
-  pub too_many : n ≤ block_qubits → block_h_gates < h_gates list.gates + h_gates other.gates → some (of_pair 14) ≡ first (block_rows s t k)
-  unfolding first
-  too_many few many = rw (own_n, own_h, le-ltb block_qubits n few, lt-ltb block_h_gates _ many)
-
-  -- within both limits the buffer decides
-  module _ (few : n ≤ block_qubits) (small : h_gates list.gates + h_gates other.gates ≤ block_h_gates) where
-    pub too_short : k < buffer_size → some (of_pair 10) ≡ first (block_rows s t k)
+  module _ (few : n ≤ block_qubits) where
+    -- too many H gates
+    pub too_many : block_h_gates < h_gates (gates s) + h_gates (gates t) → some (of_pair 14) ≡ first (block_rows s t k)
     unfolding first
-    too_short short = rw (own_n, own_h, le-ltb block_qubits n few, le-ltb block_h_gates _ small, lt-ltb k buffer_size short)
+    too_many many = rw (own_n list, le-ltb block_qubits n few, lt-ltb block_h_gates _ many)
 
-    pub nothing_holds : buffer_size ≤ k → none ≡ first (block_rows s t k)
-    unfolding first
-    nothing_holds long = rw (own_n, own_h, le-ltb block_qubits n few, le-ltb block_h_gates _ small, le-ltb k buffer_size long)
+    -- within both limits the buffer decides
+    module _ (small : h_gates (gates s) + h_gates (gates t) ≤ block_h_gates) where
+      pub too_short : k < buffer_size → some (of_pair 10) ≡ first (block_rows s t k)
+      unfolding first
+      too_short short = rw (own_n list, le-ltb block_qubits n few, le-ltb block_h_gates _ small, lt-ltb k buffer_size short)
+
+      pub nothing_holds : buffer_size ≤ k → none ≡ first (block_rows s t k)
+      unfolding first
+      nothing_holds long = rw (own_n list, le-ltb block_qubits n few, le-ltb block_h_gates _ small, le-ltb k buffer_size long)

@@ -36,10 +36,6 @@ upper zero w e =
     omega arith
 upper (suc q) w e = rw (upper q (w / 2) e) (omega (arith, pow-succ' 2 q))
 
--- as the code finds it
-pub upper_is : (q w p : ℕ) → bit q w ≡ false → p ≡ 2 ^ q → w + p ≡ put q true w
-upper_is q w p low e = rw e (sym (upper q w low))
-
 -- a place whose bit q is 1 is the lower of no pair
 pub not_lower : (q u w : ℕ) → bit q w ≡ true → put q false u ≡ w → ⊥
 not_lower q u w e h = false≢true (sym (bit_put_same q false u) ∙ ap (bit q) h ∙ e)
@@ -52,26 +48,48 @@ of_pair q u w h = go (bit q u) refl
     go false e = inl (sym (put_own q false u e) ∙ h)
     go true e = inr (sym (put_own q true u e) ∙ sym (put_put_same q true false u) ∙ ap (put q true) h)
 
--- one turn of a pass along q: what F makes of the column is stored at both places of a pair
-pub pair_turned : (n q w : ℕ) (F : State → State) (x y : Zω) (xs : List ℤ) → q < n → w < 2 ^ n → 4 * 2 ^ n ≤ length xs → bit q w ≡ false →
-    x ≡ F (amplitude_at xs) w → y ≡ F (amplitude_at xs) (put q true w) →
-    Turned n (put q false) F w xs (stored (stored xs w x) (put q true w) y)
-pair_turned n q w F x y xs qn wn room low ex ey = record { here = λ u b e. place u (of_pair q u w e); others = λ u b ne. rest u ne }
+-- a pair along q among the places of n qubits: w is the lower and high the upper
+pub record Pair (n q w high : ℕ) : Type 0 where
+  pub low : bit q w ≡ false
+  pub is : high ≡ put q true w
+  pub below : w < 2 ^ n
+  pub top : high < 2 ^ n
+  pub own : put q false w ≡ w
+  pub joined : put q false high ≡ w
+
+-- as the code finds it
+pub pair_at : (n q w p : ℕ) → q < n → w < 2 ^ n → bit q w ≡ false → p ≡ 2 ^ q → Pair n q w (w + p)
+pair_at n q w p qn wn low e =
+    record {
+      low = low;
+      is = is;
+      below = wn;
+      top = rw is (put_below n q true w qn wn);
+      own = put_own q false w low;
+      joined = rw is (put_put_same q false true w ∙ put_own q false w low);
+    }
   where
-    top : put q true w < 2 ^ n
-    top = put_below n q true w qn wn
+    is : w + p ≡ put q true w
+    is = rw e (sym (upper q w low))
 
-    apart : w ≡ put q true w → ⊥
-    apart e = not_lower q w w (ap (bit q) e ∙ bit_put_same q true w) (put_own q false w low)
+-- one turn of a pass along q: what F makes of the column is stored at both places of a pair
+pub pair_turned : {n q w high : ℕ} (F : State → State) (x y : Zω) (xs : List ℤ) → Pair n q w high → 4 * 2 ^ n ≤ length xs →
+    x ≡ F (amplitude_at xs) w → y ≡ F (amplitude_at xs) high → Turned n (put q false) F w xs (stored (stored xs w x) high y)
+pair_turned {n} {q} {w} {high} F x y xs pair room ex ey = record { here = λ u b e. place u (of_pair q u w e); others = λ u b ne. rest u ne }
+  where
+    apart : w ≡ high → ⊥
+    apart e = not_lower q w w (ap (bit q) (e ∙ pair.is) ∙ bit_put_same q true w) pair.own
 
-    place : (u : ℕ) → (u ≡ w) ⊎ (u ≡ put q true w) → amplitude_at (stored (stored xs w x) (put q true w) y) u ≡ F (amplitude_at xs) u
-    place u (inl e) = rw e (stored_other (stored xs w x) (put q true w) y w apart ∙ stored_same xs w x (omega arith) ∙ ex)
-    place u (inr e) = rw e (stored_same (stored xs w x) (put q true w) y (omega (arith, length-stored xs w x, top)) ∙ ey)
+    place : (u : ℕ) → (u ≡ w) ⊎ (u ≡ put q true w) → amplitude_at (stored (stored xs w x) high y) u ≡ F (amplitude_at xs) u
+    place u (inl e) =
+        rw e (stored_other (stored xs w x) high y w apart ∙ stored_same xs w x (omega (arith, pair.below)) ∙ ex)
+    place u (inr e) =
+        rw (e ∙ sym pair.is) (stored_same (stored xs w x) high y (omega (arith, length-stored xs w x, pair.top)) ∙ ey)
 
-    rest : (u : ℕ) → (put q false u ≡ w → ⊥) → amplitude_at (stored (stored xs w x) (put q true w) y) u ≡ amplitude_at xs u
+    rest : (u : ℕ) → (put q false u ≡ w → ⊥) → amplitude_at (stored (stored xs w x) high y) u ≡ amplitude_at xs u
     rest u ne =
-        stored_other (stored xs w x) (put q true w) y u (λ e. ne (ap (put q false) e ∙ put_put_same q false true w ∙ put_own q false w low))
-        ∙ stored_other xs w x u (λ e. ne (ap (put q false) e ∙ put_own q false w low))
+        stored_other (stored xs w x) high y u (λ e. ne (ap (put q false) e ∙ pair.joined))
+        ∙ stored_other xs w x u (λ e. ne (ap (put q false) e ∙ pair.own))
 
 -- a turn at a place that is no lower one does nothing
 pub none_turned : (n q w : ℕ) (F : State → State) (xs : List ℤ) → bit q w ≡ true → Turned n (put q false) F w xs xs

@@ -9,12 +9,8 @@ use lib.ListN.{length}
 use lib.IntN.{ℤ}
 use Rattle.amplitude.specs.Number.{Zω}
 use Rattle.amplitude.specs.Circuit.{State}
-use Rattle.dense_columns.specs.Columns.{amplitude_at, stored, Holds, Turned, itself}
+use Rattle.dense_columns.specs.Columns.{amplitude_at, stored, Holds, Turned, Local, Inside, itself}
 use Rattle.dense_columns.proofs.Places.{stored_same, stored_other}
-
--- what F makes of a state at a place of n qubits depends on the places of the same key alone
-abbrev pub Local : ℕ → (ℕ → ℕ) → (State → State) → Type 0
-Local n key F = (φ ψ : State) (u : ℕ) → u < 2 ^ n → ((v : ℕ) → v < 2 ^ n → key v ≡ key u → φ v ≡ ψ v) → F φ u ≡ F ψ u
 
 -- the places with keys below w hold what F makes of φ, the others still hold φ
 pub record Passed (n : ℕ) (key : ℕ → ℕ) (F : State → State) (φ : State) (w : ℕ) (xs : List ℤ) : Type 0 where
@@ -40,7 +36,7 @@ module _ (n : ℕ) (key : ℕ → ℕ) (F : State → State) where
       go u l (no ne) h = t.others u l ne ∙ p.done u l (omega arith)
 
   -- after the last
-  pub pass_end : (φ : State) (xs : List ℤ) → ((u : ℕ) → u < 2 ^ n → key u < 2 ^ n) → Passed n key F φ (2 ^ n) xs → Holds n (F φ) xs
+  pub pass_end : (φ : State) (xs : List ℤ) → Inside n key → Passed n key F φ (2 ^ n) xs → Holds n (F φ) xs
   pass_end φ xs below p w l = p.done w l (below w l)
 
 -- a turn that stores at its own place what F makes of the column there

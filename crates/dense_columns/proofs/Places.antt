@@ -1,10 +1,10 @@
 -- The places of a column: an amplitude that was stored is there, and every other stays.
 -- Assumes nothing.
-use mathlib.Core.Path.{◌≡◌, refl, ap, ◌∙◌}
-use mathlib.Core.List.{List, [], ◌∷◌, ◌++◌}
-use Prim.Native.Nat.{ℕ, zero, suc, ◌+◌, ◌*◌, ◌^◌, ◌<◌, ◌≤◌}
+use mathlib.Core.Path.{◌≡◌, refl, ◌∙◌}
+use mathlib.Core.List.{List}
+use Prim.Native.Nat.{ℕ, zero, suc, ◌+◌, ◌*◌, ◌^◌, ◌≤◌}
 use native.Mathlib.Omega.{arith}
-use lib.ListN.{length, get_or, set, drop, replicate, length-set}
+use lib.ListN.{length, get_or, set, replicate, length-set}
 use lib.Seq.{get_or-set_same, get_or-set_other}
 use lib.Pow.{pow_mono}
 use lib.IntN.{ℤ, pos}
@@ -79,10 +79,3 @@ zero_at (suc m) (suc i) = zero_at m i
 pub zeros_at : (m w : ℕ) → amplitude_at (replicate m (pos 0)) w ≡ 0ω
 unfolding amplitude_at 0ω whole
 zeros_at m w = zω≡ (zero_at m (4 * w)) (zero_at m (4 * w + 1)) (zero_at m (4 * w + 2)) (zero_at m (4 * w + 3))
-
--- zeros in front, one more
-pub zeros_more : (i : ℕ) (xs : List ℤ) → i < length xs →
-    set (replicate i (pos 0) ++ drop i xs) i (pos 0) ≡ replicate (suc i) (pos 0) ++ drop (suc i) xs
-zeros_more i [] l = absurd (omega arith)
-zeros_more zero (x ∷ xs) l = refl
-zeros_more (suc i) (x ∷ xs) l = ap (λ ys. pos 0 ∷ ys) (zeros_more i xs (omega arith))

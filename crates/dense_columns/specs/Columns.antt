@@ -1,8 +1,9 @@
 -- Columns of exact amplitudes in a lent slice, four numbers an amplitude: the slice itself is the state.
 -- Assumes nothing.
-use Rattle.std.specs.Prelude.{◌≡◌, ℕ, ◌+◌, ◌*◌, ◌^◌, ◌<◌, List, get_or, set, ℤ, pos}
+use Rattle.std.specs.Prelude.{◌≡◌, ℕ, ◌+◌, ◌*◌, ◌^◌, ◌<◌, ◌≤◌, List, length, get_or, set, ℤ, pos}
 use Rattle.amplitude.specs.Number.{Zω}
 use Rattle.amplitude.specs.Circuit.{State}
+use Rattle.dense_meaning.specs.Limits.{block_qubits}
 use Rattle.dense_numbers.specs.Numbers.{Sized}
 
 -- the amplitude at place w: the four numbers from 4w on
@@ -26,11 +27,24 @@ Holds n ψ xs = Agree n (amplitude_at xs) ψ
 abbrev pub AllSized : ℕ → ℕ → State → Type 0
 AllSized n k ψ = (w : ℕ) → w < 2 ^ n → Sized k (ψ w)
 
+-- a slice with room for the places of n qubits, which are no more than a block has
+pub record Room (n : ℕ) (xs : List ℤ) : Type 0 where
+  pub few : n ≤ block_qubits
+  pub places : 4 * 2 ^ n ≤ length xs
+
 -- one turn of a pass over a column: what F makes of it stands at the places of key w, and all others stay. A key gathers the places that
 -- are done together: the place itself, or the lowest of those that differ in a gate's qubits alone
 pub record Turned (n : ℕ) (key : ℕ → ℕ) (F : State → State) (w : ℕ) (xs ys : List ℤ) : Type 0 where
   pub here : (u : ℕ) → u < 2 ^ n → key u ≡ w → amplitude_at ys u ≡ F (amplitude_at xs) u
   pub others : (u : ℕ) → u < 2 ^ n → (key u ≡ w → ⊥) → amplitude_at ys u ≡ amplitude_at xs u
+
+-- what F makes of a state at a place of n qubits depends on the places of the same key alone
+abbrev pub Local : ℕ → (ℕ → ℕ) → (State → State) → Type 0
+Local n key F = (φ ψ : State) (u : ℕ) → u < 2 ^ n → ((v : ℕ) → v < 2 ^ n → key v ≡ key u → φ v ≡ ψ v) → F φ u ≡ F ψ u
+
+-- the key of a place of n qubits is one of them
+abbrev pub Inside : ℕ → (ℕ → ℕ) → Type 0
+Inside n key = (u : ℕ) → u < 2 ^ n → key u < 2 ^ n
 
 -- each place is a key of its own
 abbrev pub itself : ℕ → ℕ

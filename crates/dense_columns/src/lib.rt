@@ -1,15 +1,17 @@
 // The dense layer, columns: exact amplitudes in a lent slice, four numbers an amplitude, read and changed in place.
 #![tactic(auto)]
 
-ghost use Rattle.std.specs.Prelude.{◌≡◌, ◌+◌, ◌*◌, ◌^◌, ◌<◌, ◌≤◌, length, replicate, pos};
-ghost use Rattle.amplitude.specs.Number.{ω^};
+ghost use Rattle.std.specs.Prelude.{◌≡◌, ℕ, ◌+◌, ◌*◌, ◌^◌, ◌<◌, ◌≤◌, length, replicate, pos};
+ghost use Rattle.amplitude.specs.Number.{Zω, ω^};
 ghost use Rattle.amplitude.specs.Bits.{bit};
+ghost use Rattle.amplitude.specs.Circuit.{State};
 ghost use Rattle.dense_numbers.specs.Numbers.{number, Sized, most_doublings};
-ghost use Rattle.dense_columns.specs.Columns.{amplitude_at, stored};
+ghost use Rattle.dense_columns.specs.Columns.{amplitude_at, stored, Holds, Room, Turned, Local, Inside};
 
-use dense_numbers::{Amplitude, times_power};
+use dense_numbers::Amplitude;
 
 // The amplitude at place w.
+#[tactic(auto, unfolding(crate::specs::Columns::amplitude_at))]
 pub fn load(column: &[i64], w: usize) -> Amplitude
     requires { 4 * w + 4 ≤ length column.now }
     ensures { number result ≡ amplitude_at column.now w }
@@ -23,6 +25,7 @@ pub fn load(column: &[i64], w: usize) -> Amplitude
 }
 
 // The amplitude at place w set anew.
+#[tactic(auto, unfolding(crate::specs::Columns::stored))]
 pub fn store(column: &mut [i64], w: usize, z: Amplitude)
     requires { 4 * w + 4 ≤ length column.old }
     ensures { column.new ≡ stored column.old w (number z) }
@@ -51,33 +54,29 @@ pub fn exchange(column: &mut [i64], low: usize, high: usize)
 
 // The amplitudes of two places exchanged, that which comes to the first times ω^b and the other times ω^c.
 pub fn cross(column: &mut [i64], low: usize, high: usize, b: u8, c: u8)
-    requires { (b < 8) × (c < 8) × (4 * low + 4 ≤ length column.old) × (4 * high + 4 ≤ length column.old) × Sized most_doublings (amplitude_at column.old low) × Sized most_doublings (amplitude_at column.old high) }
+    requires { (4 * low + 4 ≤ length column.old) × (4 * high + 4 ≤ length column.old) × Sized most_doublings (amplitude_at column.old low) × Sized most_doublings (amplitude_at column.old high) }
     ensures { column.new ≡ stored (stored column.old low (ω^ b (amplitude_at column.old high))) high (ω^ c (amplitude_at column.old low)) }
 {
     let x = load(column, low);
     let y = load(column, high);
-    store(column, low, times_power(y, b));
-    store(column, high, times_power(x, c));
+    store(column, low, y.times_power(b));
+    store(column, high, x.times_power(c));
 }
 
 // The amplitude at place w times ω^k.
 pub fn turn(column: &mut [i64], w: usize, k: u8)
-    requires { (k < 8) × (4 * w + 4 ≤ length column.old) × Sized most_doublings (amplitude_at column.old w) }
+    requires { (4 * w + 4 ≤ length column.old) × Sized most_doublings (amplitude_at column.old w) }
     ensures { column.new ≡ stored column.old w (ω^ k (amplitude_at column.old w)) }
 {
     let x = load(column, w);
-    store(column, w, times_power(x, k));
+    store(column, w, x.times_power(k));
 }
 
 // Zeros everywhere.
 pub fn clear(column: &mut [i64])
     ensures { column.new ≡ replicate (length column.old) (pos 0) }
 {
-    let mut i = 0;
-    while i < column.len() {
-        column[i] = 0;
-        i += 1;
-    }
+    column.fill(0);
 }
 
 // Is bit q of a place 1?
@@ -94,4 +93,41 @@ pub fn power(q: usize) -> usize
     ensures { result ≡ 2 ^ q }
 {
     1 << q
+}
+
+// A gate's step at one place of a column. Which qubits it takes, which places are done together, by their key, what it makes of a state, and
+// what the amplitudes have to be. It reads the places of a key alone.
+// Stays: a column is a part of the caller's buffer, with n beside it; a struct over a part of a lent slice loses to the lender what it holds in the end.
+pub trait Step {
+    ghost within: { Self → ℕ → Type 0 };
+
+    ghost key: { Self → ℕ → ℕ };
+
+    ghost makes: { Self → State → State };
+
+    ghost takes: { Self → Zω → Type 0 };
+
+    // The step at place w.
+    fn at(self, column: &mut [i64], n: usize, w: usize)
+        requires qubits { within self n }
+        requires place { w < 2 ^ n }
+        requires room { Room n column.old }
+        requires small { (u : ℕ) → u < 2 ^ n → key self u ≡ w → takes self (amplitude_at column.old u) }
+        ensures { Turned n (key self) (makes self) w column.old column.new };
+
+    ghost local: { (s : Self) (n : ℕ) → within s n → Local n (key s) (makes s) };
+
+    ghost inside: { (s : Self) (n : ℕ) → within s n → Inside n (key s) };
+}
+
+// A pass over a column: the step at each place in turn.
+pub fn pass<S: Step + Copy>(column: &mut [i64], n: usize, step: S)
+    requires qubits { S.within step n }
+    requires room { Room n column.old }
+    requires small { (u : ℕ) → u < 2 ^ n → S.takes step (amplitude_at column.old u) }
+    ensures { Holds n (S.makes step (amplitude_at column.old)) column.new }
+{
+    for w in 0..power(n) {
+        step.at(column, n, w);
+    }
 }

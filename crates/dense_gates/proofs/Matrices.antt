@@ -3,9 +3,8 @@
 -- Assumes nothing.
 use mathlib.Core.Path.{◌≡◌, refl, sym, ◌∙◌}
 use mathlib.Core.Bool.{Bool, true, false}
-use Prim.Native.Nat.{ℕ, ◌<◌, ◌≤◌}
+use Prim.Native.Nat.{ℕ}
 use native.Mathlib.Omega.{arith}
-use borrow.Author.Tests.{ne_eqb}
 use Rattle.record_format.specs.Gate.{OneQubit, X, Y, Z, S, S†, T, T†, H, one}
 use Rattle.amplitude.specs.Bits.{bit}
 use Rattle.amplitude.specs.Matrix.{Entry, O, ω, Matrix, matrix, entry, times}
@@ -14,7 +13,7 @@ use Rattle.amplitude.proofs.NumberLaws.{+ω_idl, +ω_idr}
 use Rattle.amplitude.proofs.Linear.{ω^_zero}
 use Rattle.dense_columns.proofs.Pairs.{put_own}
 use Rattle.dense_turning.specs.Turns.{turned_where, crossed}
-use Rattle.dense_gates.specs.Gates.{entry_of, combined}
+use Rattle.dense_gates.specs.Gates.{combined}
 
 -- an entry is not 0
 abbrev Power : Entry → Type 0
@@ -26,32 +25,9 @@ no_power k e =
     let z : ◌≡◌ {A = ℕ} 0 1 = cc in
     omega arith
 
--- 8 stands for 0
-pub zero_entry : (k : ℕ) → k ≡ 8 → entry_of k ≡ O
-unfolding entry_of
-zero_entry k h = rw h
-
--- a number that stands for an entry
-module _ (k : ℕ) (e : Entry) (stands : entry_of k ≡ e) where
-  -- any but 8 stands for that power
-  other_power : (k ≡ 8 → ⊥) → e ≡ ω k
-  other_power ne = sym stands ∙ (unfold entry_of in rw (ne_eqb k 8 ne))
-
-  -- so the entry is not 0
-  pub not_zero : (k ≡ 8 → ⊥) → Power e
-  not_zero ne h = no_power k (sym (other_power ne) ∙ h)
-
-  -- where it is not 0, the number is not 8
-  not_eight : Power e → k ≡ 8 → ⊥
-  not_eight power h = power (sym stands ∙ zero_entry k h)
-
-  -- it stands for that power
-  pub power_is : Power e → e ≡ ω k
-  power_is power = other_power (not_eight power)
-
-  -- and is below 8
-  pub power_small : Power e → k ≤ 8 → k < 8
-  power_small power l = omega (arith, not_eight power)
+-- a power in the table stands for one
+pub some_power : (k : ℕ) {e : Entry} → ω k ≡ e → Power e
+some_power k is h = no_power k (is ∙ h)
 
 -- a diagonal matrix, with 1 in front
 pub record Diagonal (m : Matrix) : Type 0 where
@@ -110,33 +86,37 @@ full T p q = absurd (q refl)
 full T† p q = absurd (q refl)
 full H p q = record { first = p; upper = q; lower = no_power 0; last = no_power 4 }
 
--- what each makes of a state
-module _ (u : OneQubit) (q : ℕ) (ψ : State) (w : ℕ) where
-  -- a diagonal one turns where the bit is 1
-  pub diagonal_turns : (d : ℕ) → Diagonal (matrix u) → entry_of d ≡ entry (matrix u) true true → turned_where q q d ψ w ≡ apply (one u q) ψ w
-  unfolding apply turned_where times
-  diagonal_turns d m e = go (bit q w) refl
-    where
-      go : (t : Bool) → bit q w ≡ t → turned_where q q d ψ w ≡ apply (one u q) ψ w
-      go true h = rw (h, m.lower, power_is d _ e m.last, put_own q true w h) (sym (+ω_idl _))
-      go false h = rw (h, m.first, m.upper, put_own q false w h) (sym (+ω_idr _ ∙ ω^_zero _))
+-- the entries of a matrix
+pub record Entries (m : Matrix) (a b c d : Entry) : Type 0 where
+  pub first : a ≡ entry m false false
+  pub upper : b ≡ entry m false true
+  pub lower : c ≡ entry m true false
+  pub last : d ≡ entry m true true
 
-  -- one with zeros in the diagonal exchanges and turns
-  pub crossing_crosses : (b c : ℕ) → Crossing (matrix u) → entry_of b ≡ entry (matrix u) false true → entry_of c ≡ entry (matrix u) true false →
-      crossed q b c ψ w ≡ apply (one u q) ψ w
-  unfolding apply crossed times
-  crossing_crosses b c m e f = go (bit q w) refl
-    where
-      go : (t : Bool) → bit q w ≡ t → crossed q b c ψ w ≡ apply (one u q) ψ w
-      go true h = rw (h, m.last, power_is c _ f m.lower) (sym (+ω_idr _))
-      go false h = rw (h, m.first, power_is b _ e m.upper) (sym (+ω_idl _))
-
-  -- and one without zeros combines
-  pub full_combines : (a b c d : ℕ) → Full (matrix u) → entry_of a ≡ entry (matrix u) false false → entry_of b ≡ entry (matrix u) false true →
-      entry_of c ≡ entry (matrix u) true false → entry_of d ≡ entry (matrix u) true true → combined q a b c d ψ w ≡ apply (one u q) ψ w
-  unfolding apply combined times
-  full_combines a b c d m e f g h = go (bit q w) refl
+module _ (q : ℕ) (ψ : State) (w : ℕ) where
+  -- a gate combines by its matrix
+  pub matrix_combines : (u : OneQubit) (a b c d : Entry) → Entries (matrix u) a b c d → combined q a b c d ψ w ≡ apply (one u q) ψ w
+  unfolding apply combined
+  matrix_combines u a b c d is = go (bit q w) refl
     where
       go : (t : Bool) → bit q w ≡ t → combined q a b c d ψ w ≡ apply (one u q) ψ w
-      go true is = rw (is, power_is c _ g m.lower, power_is d _ h m.last)
-      go false is = rw (is, power_is a _ e m.first, power_is b _ f m.upper)
+      go true h = rw (h, is.lower, is.last)
+      go false h = rw (h, is.first, is.upper)
+
+  -- a diagonal matrix with 1 in front turns where the bit is 1
+  pub diagonal_turns : (d : ℕ) → turned_where q q d ψ w ≡ combined q (ω 0) O O (ω d) ψ w
+  unfolding combined turned_where times
+  diagonal_turns d = go (bit q w) refl
+    where
+      go : (t : Bool) → bit q w ≡ t → turned_where q q d ψ w ≡ combined q (ω 0) O O (ω d) ψ w
+      go true h = rw (h, put_own q true w h) (sym (+ω_idl _))
+      go false h = rw (h, put_own q false w h) (sym (+ω_idr _ ∙ ω^_zero _))
+
+  -- one with zeros in the diagonal exchanges and turns
+  pub crossing_crosses : (b c : ℕ) → crossed q b c ψ w ≡ combined q O (ω b) (ω c) O ψ w
+  unfolding combined crossed times
+  crossing_crosses b c = go (bit q w) refl
+    where
+      go : (t : Bool) → bit q w ≡ t → crossed q b c ψ w ≡ combined q O (ω b) (ω c) O ψ w
+      go true h = rw h (sym (+ω_idr _))
+      go false h = rw h (sym (+ω_idl _))

@@ -1,2 +1,3 @@
 -- One-qubit gates on a column.
 pub mod Gates
+pub mod Local

@@ -1,99 +1,101 @@
 // The dense layer, one-qubit gates: each on a column of n qubits, in place, in one pass over its places.
+// Stays: a column and its n are two parameters; `Step` of dense_columns says why.
 #![tactic(auto)]
 
-ghost use Rattle.std.specs.Prelude.{◌≡◌, ℕ, ◌+◌, ◌*◌, ◌^◌, ◌<◌, ◌≤◌, false, eqb, length};
+ghost use Rattle.std.specs.Prelude.{◌≡◌, ◌+◌, ◌*◌, ◌<◌, ◌≤◌, false, eqb, length};
 ghost use Rattle.record_format.specs.Gate.{one};
+ghost use Rattle.record_format.specs.Typed.{one_in};
 ghost use Rattle.amplitude.specs.Bits.{put};
 ghost use Rattle.amplitude.specs.Number.{◌+ω◌, ω^};
-ghost use Rattle.amplitude.specs.Matrix.{matrix, entry};
+ghost use Rattle.amplitude.specs.Matrix.{ω, matrix, entry};
 ghost use Rattle.amplitude.specs.Circuit.{apply};
 ghost use Rattle.dense_numbers.specs.Numbers.{Sized, most_doublings};
-ghost use Rattle.dense_meaning.specs.Limits.{block_qubits};
-ghost use Rattle.dense_columns.specs.Columns.{amplitude_at, stored, Holds, AllSized, Turned};
-ghost use Rattle.dense_gates.specs.Gates.{entry_of, gate_of_kind, combined};
+ghost use Rattle.dense_columns.specs.Columns.{amplitude_at, stored, Holds, AllSized, Room};
+ghost use Rattle.dense_gates.specs.Gates.{entry_of, combined};
+ghost use Rattle.dense_turning.specs.Local.{pair_inside};
+ghost use Rattle.dense_gates.specs.Local.{combined_local};
 
-use dense_columns::{has_bit, load, power, store};
-use dense_numbers::{plus, times_power};
+use dense_columns::{Step, has_bit, load, pass, power, store};
 use dense_turning::{cross_along, turn_where};
+use record_format::gate::OneQubit;
 
-// An entry 0 of the table.
-const ZERO: u8 = 8;
-
-// The one-qubit matrices by kind, two rows of two entries each: a power of ω, or ZERO.
-const MATRICES: [[[u8; 2]; 2]; 8] = [
-    [[8, 0], [0, 8]],
-    [[8, 6], [2, 8]],
-    [[0, 8], [8, 4]],
-    [[0, 8], [8, 2]],
-    [[0, 8], [8, 6]],
-    [[0, 8], [8, 1]],
-    [[0, 8], [8, 7]],
-    [[0, 0], [0, 4]],
+// The one-qubit matrices by kind, two rows of two entries each: a power of ω, or None for 0.
+const MATRICES: [[[Option<u8>; 2]; 2]; 8] = [
+    [[None, Some(0)], [Some(0), None]],
+    [[None, Some(6)], [Some(2), None]],
+    [[Some(0), None], [None, Some(4)]],
+    [[Some(0), None], [None, Some(2)]],
+    [[Some(0), None], [None, Some(6)]],
+    [[Some(0), None], [None, Some(1)]],
+    [[Some(0), None], [None, Some(7)]],
+    [[Some(0), Some(0)], [Some(0), Some(4)]],
 ];
 
 // An entry of the matrix of a kind.
-fn matrix_entry(kind: usize, row: usize, column: usize) -> u8
-    requires { (kind < 8) × (row < 2) × (column < 2) }
-    ensures entry { entry_of result ≡ entry (matrix (gate_of_kind kind)) (eqb row 1) (eqb column 1) }
-    ensures small { result ≤ 8 }
+fn matrix_entry(kind: OneQubit, row: usize, column: usize) -> Option<u8>
+    requires { (row < 2) × (column < 2) }
+    ensures { entry_of result ≡ entry (matrix (one_in kind)) (eqb row 1) (eqb column 1) }
 {
-    MATRICES[kind][row][column]
+    MATRICES[usize::from(u8::from(kind))][row][column]
 }
 
-// A matrix of powers of ω, a and b in its first row, on the amplitudes of a pair of places.
-fn combine(column: &mut [i64], low: usize, high: usize, a: u8, b: u8, c: u8, d: u8)
-    requires { (a < 8) × (b < 8) × (c < 8) × (d < 8) × (4 * low + 4 ≤ length column.old) × (4 * high + 4 ≤ length column.old) × Sized most_doublings (amplitude_at column.old low) × Sized most_doublings (amplitude_at column.old high) }
-    ensures { column.new ≡ stored (stored column.old low (ω^ a (amplitude_at column.old low) +ω ω^ b (amplitude_at column.old high))) high (ω^ c (amplitude_at column.old low) +ω ω^ d (amplitude_at column.old high)) }
-{
-    let x = load(column, low);
-    let y = load(column, high);
-    let p = plus(times_power(x, a), times_power(y, b));
-    let q = plus(times_power(x, c), times_power(y, d));
-    store(column, low, p);
-    store(column, high, q);
+// A matrix of powers of ω along qubit q, a and b in its first row, c and d in its second: pair by pair, at the lower place.
+#[derive(Clone, Copy)]
+struct Combine {
+    q: usize,
+    a: u8,
+    b: u8,
+    c: u8,
+    d: u8,
 }
 
-// Such a matrix along qubit q at place w, if w is the lower place of a pair.
-fn combine_at(column: &mut [i64], n: usize, q: usize, a: u8, b: u8, c: u8, d: u8, w: usize)
-    requires { (q < n) × (n ≤ block_qubits) × (a < 8) × (b < 8) × (c < 8) × (d < 8) × (w < 2 ^ n) × (4 * 2 ^ n ≤ length column.old) × ((u : ℕ) → u < 2 ^ n → put q false u ≡ w → Sized most_doublings (amplitude_at column.old u)) }
-    ensures { Turned n (put q false) (combined q a b c d) w column.old column.new }
-{
-    if has_bit(w, q) {
-        return;
+impl Combine {
+    // The matrix on the amplitudes of a pair of places.
+    fn combine(self, column: &mut [i64], low: usize, high: usize)
+        requires { (4 * low + 4 ≤ length column.old) × (4 * high + 4 ≤ length column.old) × Sized most_doublings (amplitude_at column.old low) × Sized most_doublings (amplitude_at column.old high) }
+        ensures { column.new ≡ stored (stored column.old low (ω^ self.a (amplitude_at column.old low) +ω ω^ self.b (amplitude_at column.old high))) high (ω^ self.c (amplitude_at column.old low) +ω ω^ self.d (amplitude_at column.old high)) }
+    {
+        let x = load(column, low);
+        let y = load(column, high);
+        store(column, low, x.times_power(self.a) + y.times_power(self.b));
+        store(column, high, x.times_power(self.c) + y.times_power(self.d));
     }
-    combine(column, w, w + power(q), a, b, c, d);
 }
 
-// The same on a column: pair by pair.
-fn combine_along(column: &mut [i64], n: usize, q: usize, a: u8, b: u8, c: u8, d: u8)
-    requires { (q < n) × (n ≤ block_qubits) × (a < 8) × (b < 8) × (c < 8) × (d < 8) × (4 * 2 ^ n ≤ length column.old) × AllSized n most_doublings (amplitude_at column.old) }
-    ensures { Holds n (combined q a b c d (amplitude_at column.old)) column.new }
-{
-    let end = power(n);
-    let mut w = 0;
-    while w < end {
-        combine_at(column, n, q, a, b, c, d, w);
-        w += 1;
+impl Step for Combine {
+    ghost within = { λ s n. s.q < n };
+
+    ghost key = { λ s. put s.q false };
+
+    ghost makes = { λ s. combined s.q (ω s.a) (ω s.b) (ω s.c) (ω s.d) };
+
+    ghost takes = { λ s. Sized most_doublings };
+
+    fn at(self, column: &mut [i64], n: usize, w: usize) {
+        if !has_bit(w, self.q) {
+            self.combine(column, w, w + power(self.q));
+        }
     }
+
+    ghost local = { λ s n l. combined_local n s.q (ω s.a) (ω s.b) (ω s.c) (ω s.d) l };
+
+    ghost inside = { λ s n l. pair_inside n s.q l };
 }
 
 // A one-qubit gate on a column, by its matrix. A diagonal one turns the amplitudes where its qubit is 1, one with zeros in the diagonal
-// exchanges them along it, and any other combines them.
-pub fn apply_one(column: &mut [i64], n: usize, kind: usize, q: usize)
-    requires { (kind < 8) × (q < n) × (n ≤ block_qubits) × (4 * 2 ^ n ≤ length column.old) × AllSized n most_doublings (amplitude_at column.old) }
-    ensures { Holds n (apply (one (gate_of_kind kind) q) (amplitude_at column.old)) column.new }
+// exchanges them along it, and one without zeros combines them. No other is in the table.
+pub fn apply_one(column: &mut [i64], n: usize, kind: OneQubit, q: usize)
+    requires { (q < n) × Room n column.old × AllSized n most_doublings (amplitude_at column.old) }
+    ensures { Holds n (apply (one (one_in kind) q) (amplitude_at column.old)) column.new }
 {
     let a = matrix_entry(kind, 0, 0);
     let b = matrix_entry(kind, 0, 1);
     let c = matrix_entry(kind, 1, 0);
     let d = matrix_entry(kind, 1, 1);
-    if b == ZERO {
-        turn_where(column, n, q, q, d);
-        return;
+    match (a, b, c, d) {
+        (_, None, _, Some(d)) => turn_where(column, n, q, q, d),
+        (None, Some(b), Some(c), _) => cross_along(column, n, q, b, c),
+        (Some(a), Some(b), Some(c), Some(d)) => pass(column, n, Combine { q, a, b, c, d }),
+        _ => unreachable!(),
     }
-    if a == ZERO {
-        cross_along(column, n, q, b, c);
-        return;
-    }
-    combine_along(column, n, q, a, b, c, d);
 }

@@ -31,9 +31,9 @@ module _ (n : ℕ) (first second : List Gate) (v : ℕ) (xs : List ℤ) (halves 
       (sym e ∙ carries_pass n j (left_of xs) (right_of xs) (λ w b. ap (ω^ j) (halves.left w b) ∙ f w b ∙ sym (halves.right w b)))
 
 -- the numbers in the first half are small enough to be turned
-pub left_small : (n : ℕ) (first second : List ℕ) (h k v : ℕ) (xs : List ℤ) → Block n first second h k →
+pub left_small : {n h k v : ℕ} {first second : List ℕ} {xs : List ℤ} → Block n first second h k →
     Halved n (gates_in first) (gates_in second) v xs → AllSized n most_doublings (left_of xs)
-left_small n first second h k v xs block halves =
+left_small {n} {h} {k} {v} {first} {second} {xs} block halves =
     let gs = gates_in first in
     let hs = gates_in second in
     agree_sized n most_doublings (left_of xs) (scaled_column (h_gates hs) gs v) halves.left

@@ -1,7 +1,10 @@
 -- The columns of two lists compared, by the lists' bytes, in the two halves of a buffer.
 -- Assumes nothing.
-use Rattle.std.specs.Prelude.{◌≡◌, ℕ, ◌+◌, ◌%◌, ◌≤◌, List, length, take, drop, ℤ}
-use Rattle.record_format.specs.Gate.{Gate, AllWithin}
+use Rattle.std.specs.Prelude.{◌≡◌, ℕ, ◌+◌, ◌≤◌, List, [], ◌∷◌, take, drop, ℤ}
+use Rattle.std.specs.Coded.{×_prop, Π_prop, Unit-prop, le_prop}
+use mathlib.Core.HLevel.{×₃_prop, ⊥_prop}
+use native.Mathlib.Nat.{ℕ_set}
+use Rattle.record_format.specs.Gate.{Gate, one, two, Within, AllWithin}
 use Rattle.record_format.specs.Reading.{gates_in}
 use Rattle.amplitude.specs.Circuit.{State, h_gates}
 use Rattle.amplitude.specs.Testing.{scaled_column}
@@ -15,13 +18,31 @@ use Rattle.dense_judging.specs.declared.Judged.TheVariants.{Carried, Different}
 -- a block: two lists by their bytes, on n qubits, with h and k H gates
 pub record Block (n : ℕ) (first second : List ℕ) (h k : ℕ) : Type 0 where
   pub few : n ≤ block_qubits
-  pub threes_first : length first % 3 ≡ 0
-  pub threes_second : length second % 3 ≡ 0
   pub within_first : AllWithin n (gates_in first)
   pub within_second : AllWithin n (gates_in second)
   pub h_first : h_gates (gates_in first) ≡ h
   pub h_second : h_gates (gates_in second) ≡ k
   pub small : h + k ≤ most_doublings
+
+-- each of these facts holds in one way
+Within-prop : (n : ℕ) (g : Gate) → IsProp (Within n g)
+Within-prop n (one u a) = le_prop
+Within-prop n (two v a b) = ×₃_prop le_prop le_prop (Π_prop λ e. ⊥_prop)
+
+AllWithin-prop : (n : ℕ) (gs : List Gate) → IsProp (AllWithin n gs)
+AllWithin-prop n [] = Unit-prop
+AllWithin-prop n (g ∷ gs) = ×_prop (Within-prop n g) (AllWithin-prop n gs)
+
+pub Block-prop : (n : ℕ) (first second : List ℕ) (h k : ℕ) → IsProp (Block n first second h k)
+Block-prop n first second h k x y i =
+    record {
+      few = le_prop x.few y.few i;
+      within_first = AllWithin-prop n (gates_in first) x.within_first y.within_first i;
+      within_second = AllWithin-prop n (gates_in second) x.within_second y.within_second i;
+      h_first = ℕ_set _ _ x.h_first y.h_first i;
+      h_second = ℕ_set _ _ x.h_second y.h_second i;
+      small = le_prop x.small y.small i;
+    }
 
 -- the numbers of a half
 abbrev pub half : ℕ

@@ -5,7 +5,7 @@ use Rattle.std.specs.Prelude.{ℕ, List, [], ◌∷◌}
 use Rattle.record_format.specs.Pair.{number_in}
 use Rattle.dense_types.specs.Call.{Said, says, refuses}
 use Rattle.line_bytes.specs.Line.{line_with, refused_line}
-use Rattle.verdict_line.specs.Word.{verdict_word}
+use Rattle.comparison_types.specs.Call.{verdict_word}
 
 -- the line of what the dense comparison says: the verdict and the two inputs, or that of the refusal's number
 abbrev pub line_of : Said → List ℕ

@@ -1,15 +1,15 @@
 -- Sizes of amplitudes: a sum and √2 at most double them, a power of ω keeps them.
 -- Assumes nothing.
-use mathlib.Core.Path.{◌≡◌, refl}
-use Prim.Native.Nat.{ℕ, zero, suc, ◌+◌, ◌^◌, ◌≤◌}
+use mathlib.Core.Path.{◌≡◌, refl, sym, ap, ◌∙◌}
+use Prim.Native.Nat.{ℕ, zero, suc, ◌+◌, ◌%◌, ◌^◌, ◌<◌, ◌≤◌}
 use native.Mathlib.Nat.{le_trans, pow-succ', add-zero, add-suc}
 use native.Mathlib.Omega.{arith}
 use lib.Pow.{pow_mono}
 use lib.IntN.{ℤ, neg_ℤ, nat_abs, ◌+ℤ◌, ◌-ℤ◌, +ℤ_comm, neg_ℤ-neg_ℤ}
 use Rattle.amplitude.specs.Number.{Zω, whole, 0ω, 1ω, ◌+ω◌, neg, mulω, ω^, mul√2, √2^}
 use Rattle.amplitude.specs.Matrix.{Entry, O, ω, times}
-use Rattle.amplitude.proofs.NumberLaws.{zω≡}
-use Rattle.dense_numbers.specs.Numbers.{Sized}
+use Rattle.amplitude.proofs.NumberLaws.{zω≡, ω^_four, ω^-add, ω^-mod}
+use Rattle.dense_numbers.specs.Numbers.{Sized, most_doublings}
 use Rattle.dense_numbers.proofs.Whole.{size_sum, size_negative}
 
 -- two whole numbers added
@@ -58,6 +58,10 @@ pub sized_mulω : (k : ℕ) (x : Zω) → Sized k x → Sized k (mulω x)
 unfolding mulω
 sized_mulω k x s = record { a = rw (size_negative x.d) s.d; b = s.a; c = s.b; d = s.c }
 
+-- as the code has it
+pub sized_omega : (x y : Zω) → y ≡ mulω x → Sized most_doublings x → Sized most_doublings y
+sized_omega x y e s = rw e (sized_mulω most_doublings x s)
+
 -- a power of ω times a number
 pub sized_ω^ : (j k : ℕ) (x : Zω) → Sized k x → Sized k (ω^ j x)
 unfolding ω^
@@ -87,3 +91,15 @@ unfolding mul√2 ω^ mulω neg ◌+ω◌
 root_two x =
     zω≡ (rw (neg_ℤ-neg_ℤ x.b) (+ℤ_comm (neg_ℤ x.d) x.b)) (rw (neg_ℤ-neg_ℤ x.c))
     (rw (neg_ℤ-neg_ℤ x.d)) refl
+
+-- a power of ω by the power that its number leaves by 4: ω⁸ is 1
+pub lower_half : (k : ℕ) (x : Zω) → k % 8 < 4 → ω^ (k % 4) x ≡ ω^ k x
+lower_half k x low =
+    let same : k % 4 ≡ k % 8 = omega arith in
+    ap (λ m. ω^ m x) same ∙ ω^-mod k x
+
+-- and ω⁴ is −1
+pub upper_half : (k : ℕ) (x : Zω) → 4 ≤ k % 8 → ω^ (k % 4) (neg x) ≡ ω^ k x
+upper_half k x high =
+    let same : k % 4 + 4 ≡ k % 8 = omega arith in
+    ap (ω^ (k % 4)) (sym (ω^_four x)) ∙ sym (ω^-add (k % 4) 4 x) ∙ ap (λ m. ω^ m x) same ∙ ω^-mod k x

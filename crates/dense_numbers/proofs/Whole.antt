@@ -1,18 +1,16 @@
--- Whole numbers of bounded size, as the machine adds, subtracts and compares them. A number that is stored is read back as
+-- Whole numbers of bounded size, as the machine adds and subtracts them. A number that is stored is read back as
 -- `to_z w64 (of_z w64 z)`, which is z where z fits.
 -- Assumes nothing.
-use mathlib.Core.Path.{◌≡◌, refl, sym, ◌∙◌, ap}
+use mathlib.Core.Path.{◌≡◌, refl, ◌∙◌, ap}
 use Prim.Native.Nat.{ℕ, zero, suc, ◌+◌, ◌-◌, ◌^◌, ◌≤◌}
 use mathlib.Core.Bool.{Bool, true, false, cond}
 use native.Mathlib.Omega.{arith}
-use lib.Dec.{eqb, ltb}
+use lib.Dec.{ltb}
 use lib.IntN.{ℤ, pos, negsuc, neg_ℤ, nat_abs, sub_ℕ, ◌+ℤ◌, ◌-ℤ◌, +ℤ_idl}
-use borrow.Author.Tests.{ltb-true, ltb-false, eqb-true, eqb-false, eq-eqb, ne_eqb}
+use borrow.Author.Tests.{ltb-true, ltb-false}
 use mir.Syntax.{w64}
 use mir.Val.{SFits, to_z, of_z}
 use mir.ValLaws.{to_z-of_z}
-use Rattle.amplitude.specs.Testing.{eq_ℤ}
-use Rattle.amplitude.proofs.Testing.{eq_ℤ_true, eq_ℤ_same}
 use Rattle.dense_numbers.specs.Numbers.{most_doublings}
 
 -- what is read back of a number that was stored
@@ -77,23 +75,3 @@ module _ (x : ℤ) (h : nat_abs x ≤ 2 ^ most_doublings) where
   -- and is read back as the negative
   pub negative_back : back (pos 0 -ℤ back x) ≡ neg_ℤ x
   negative_back = to_z-of_z w64 _ negative_fits ∙ ap (λ z. pos 0 -ℤ z) (same_back x h) ∙ +ℤ_idl (neg_ℤ x)
-
--- two stored numbers compare by their bits as they compare
-pub bits_compare : (x y : ℤ) → SFits w64 x → SFits w64 y → eqb (of_z w64 x) (of_z w64 y) ≡ eq_ℤ x y
-bits_compare x y f g = go (eqb (of_z w64 x) (of_z w64 y)) (eq_ℤ x y) refl refl
-  where
-    go : (s t : Bool) → eqb (of_z w64 x) (of_z w64 y) ≡ s → eq_ℤ x y ≡ t → s ≡ t
-    go true true d e = refl
-    go false false d e = refl
-    go true false d e =
-        let same : x ≡ y = sym (to_z-of_z w64 x f) ∙ ap (to_z w64) (eqb-true (of_z w64 x) (of_z w64 y) d) ∙ to_z-of_z w64 y g in
-        sym (eq_ℤ_same x) ∙ ap (eq_ℤ x) same ∙ e
-    go false true d e = absurd (eqb-false (of_z w64 x) (of_z w64 y) d (ap (of_z w64) (eq_ℤ_true x y e)))
-
--- so bits that are equal are of equal numbers
-pub bits_same : (x y : ℤ) → SFits w64 x → SFits w64 y → of_z w64 x ≡ of_z w64 y → eq_ℤ x y ≡ true
-bits_same x y f g e = sym (bits_compare x y f g) ∙ eq-eqb (of_z w64 x) (of_z w64 y) e
-
--- and bits that differ of numbers that differ
-pub bits_other : (x y : ℤ) → SFits w64 x → SFits w64 y → (of_z w64 x ≡ of_z w64 y → ⊥) → eq_ℤ x y ≡ false
-bits_other x y f g ne = sym (bits_compare x y f g) ∙ ne_eqb (of_z w64 x) (of_z w64 y) ne

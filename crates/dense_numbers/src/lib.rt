@@ -2,13 +2,15 @@
 // Every function is given numbers of bounded size, and none overflows.
 #![tactic(auto)]
 
-ghost use Rattle.std.specs.Prelude.{◌≡◌, ◌≤◌, ◌<◌};
+ghost use Rattle.std.specs.Prelude.{◌≡◌, ◌%◌, ◌≤◌};
 ghost use Rattle.amplitude.specs.Number.{1ω, ◌+ω◌, neg, mulω, ω^, mul√2, √2^};
 ghost use Rattle.amplitude.specs.Testing.{eqω};
 ghost use Rattle.dense_numbers.specs.Numbers.{number, Sized, most_doublings};
 
+use std::ops::{Add, Neg};
+
 // An amplitude: a + bω + cω² + dω³.
-#[derive(Clone, Copy)]
+#[derive(Clone, Copy, Debug, PartialEq, Eq)]
 pub struct Amplitude {
     pub a: i64,
     pub b: i64,
@@ -16,122 +18,131 @@ pub struct Amplitude {
     pub d: i64,
 }
 
-// The sum of two amplitudes.
-pub fn plus(x: Amplitude, y: Amplitude) -> Amplitude
-    requires { Sized most_doublings (number x) × Sized most_doublings (number y) }
-    ensures { number result ≡ number x +ω number y }
-{
-    Amplitude {
-        a: x.a + y.a,
-        b: x.b + y.b,
-        c: x.c + y.c,
-        d: x.d + y.d,
+impl Add for Amplitude {
+    type Output = Amplitude;
+
+    ghost can_add = { λ x y. Sized most_doublings (number x) × Sized most_doublings (number y) };
+
+    ghost add_gives = { λ x y r. number r ≡ number x +ω number y };
+
+    fn add(self, y: Amplitude) -> Amplitude {
+        Amplitude {
+            a: self.a + y.a,
+            b: self.b + y.b,
+            c: self.c + y.c,
+            d: self.d + y.d,
+        }
     }
 }
 
-// An amplitude's negative.
-pub fn negative(x: Amplitude) -> Amplitude
-    requires { Sized most_doublings (number x) }
-    ensures { number result ≡ neg (number x) }
-{
-    Amplitude {
-        a: 0 - x.a,
-        b: 0 - x.b,
-        c: 0 - x.c,
-        d: 0 - x.d,
+impl Neg for Amplitude {
+    type Output = Amplitude;
+
+    ghost can_neg = { λ x. Sized most_doublings (number x) };
+
+    ghost neg_gives = { λ x r. number r ≡ neg (number x) };
+
+    fn neg(self) -> Amplitude {
+        Amplitude {
+            a: -self.a,
+            b: -self.b,
+            c: -self.c,
+            d: -self.d,
+        }
     }
 }
 
-// An amplitude times ω: the coefficients move up, and the last comes round negated, since ω⁴ = −1.
-pub fn times_omega(x: Amplitude) -> Amplitude
-    requires { Sized most_doublings (number x) }
-    ensures { number result ≡ mulω (number x) }
-{
-    Amplitude {
-        a: 0 - x.d,
-        b: x.a,
-        c: x.b,
-        d: x.c,
-    }
-}
+impl Amplitude {
+    // 0 and 1.
+    pub const ZERO: Amplitude = Amplitude {
+        a: 0,
+        b: 0,
+        c: 0,
+        d: 0,
+    };
 
-// An amplitude times ω, ω² or ω³.
-fn times_low_power(x: Amplitude, k: u8) -> Amplitude
-    requires { (1 ≤ k) × (k < 4) × Sized most_doublings (number x) }
-    ensures { number result ≡ ω^ k (number x) }
-{
-    let y = times_omega(x);
-    if k == 1 {
-        return y;
-    }
-    let z = times_omega(y);
-    if k == 2 {
-        return z;
-    }
-    times_omega(z)
-}
-
-// An amplitude times ω^k. The powers that most gates have, 1 and −1, come first.
-pub fn times_power(x: Amplitude, k: u8) -> Amplitude
-    requires { (k < 8) × Sized most_doublings (number x) }
-    ensures { number result ≡ ω^ k (number x) }
-{
-    if k == 0 {
-        return x;
-    }
-    if k == 4 {
-        return negative(x);
-    }
-    if k < 4 {
-        return times_low_power(x, k);
-    }
-    times_low_power(negative(x), k - 4)
-}
-
-// An amplitude times √2 = ω − ω³.
-fn times_root_two(x: Amplitude) -> Amplitude
-    requires { Sized most_doublings (number x) }
-    ensures { number result ≡ mul√2 (number x) }
-{
-    Amplitude {
-        a: x.b - x.d,
-        b: x.a + x.c,
-        c: x.b + x.d,
-        d: x.c - x.a,
-    }
-}
-
-// 1 times √2, k times.
-pub fn root_two_power(k: usize) -> Amplitude
-    requires { k ≤ most_doublings }
-    ensures { number result ≡ √2^ k 1ω }
-{
-    let mut z = Amplitude {
+    pub const ONE: Amplitude = Amplitude {
         a: 1,
         b: 0,
         c: 0,
         d: 0,
     };
-    let mut i = 0;
-    while i < k {
-        z = times_root_two(z);
-        i += 1;
-    }
-    z
-}
 
-// Are two amplitudes the same?
-pub fn same(x: Amplitude, y: Amplitude) -> bool
-    ensures { result ≡ eqω (number x) (number y) }
-{
-    if x.a != y.a {
-        return false;
+    // An amplitude times ω: the coefficients move up, and the last comes round negated, since ω⁴ = −1.
+    pub fn times_omega(self) -> Amplitude
+        requires { Sized most_doublings (number self) }
+        ensures { number result ≡ mulω (number self) }
+    {
+        Amplitude {
+            a: -self.d,
+            b: self.a,
+            c: self.b,
+            d: self.c,
+        }
     }
-    if x.b != y.b {
-        return false;
+
+    // An amplitude times ω to what k leaves by 4, if it leaves something.
+    fn times_low_power(self, k: u8) -> Amplitude
+        requires power { 1 ≤ k % 4 }
+        requires small { Sized most_doublings (number self) }
+        ensures { number result ≡ ω^ (k % 4) (number self) }
+    {
+        let y = self.times_omega();
+        match k % 4 {
+            1 => y,
+            2 => y.times_omega(),
+            _ => y.times_omega().times_omega(),
+        }
     }
-    if x.c != y.c {
-        return false;
+
+    // An amplitude times ω^k: ω⁴ is −1. The powers that most gates have, 1 and −1, come first.
+    pub fn times_power(self, k: u8) -> Amplitude
+        requires { Sized most_doublings (number self) }
+        ensures { number result ≡ ω^ k (number self) }
+    {
+        let k = k % 8;
+        if k == 0 {
+            return self;
+        }
+        if k == 4 {
+            return -self;
+        }
+        if k < 4 {
+            return self.times_low_power(k);
+        }
+        (-self).times_low_power(k)
     }
-    x.d == y.d
+
+    // An amplitude times √2 = ω − ω³.
+    fn times_root_two(self) -> Amplitude
+        requires { Sized most_doublings (number self) }
+        ensures { number result ≡ mul√2 (number self) }
+    {
+        Amplitude {
+            a: self.b - self.d,
+            b: self.a + self.c,
+            c: self.b + self.d,
+            d: self.c - self.a,
+        }
+    }
+
+    // 1 times √2, k times.
+    pub fn root_two_power(k: usize) -> Amplitude
+        requires { k ≤ most_doublings }
+        ensures { number result ≡ √2^ k 1ω }
+    {
+        let mut z = Amplitude::ONE;
+        for _ in 0..k {
+            z = z.times_root_two();
+        }
+        z
+    }
+
+    // Does ω^k carry an amplitude to another?
+    pub fn carries_to(self, k: u8, y: Amplitude) -> bool
+        requires { Sized most_doublings (number self) }
+        ensures { result ≡ eqω (ω^ k (number self)) (number y) }
+    {
+        self.times_power(k) == y
+    }
 }

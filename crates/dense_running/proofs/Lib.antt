@@ -1,7 +1,6 @@
--- Laws of running lists. In order: gates read the places of their qubits alone, how numbers grow, a list gate by gate, gates by their kinds,
--- and a column from its input on.
+-- Laws of running lists. In order: gates read the places of their qubits alone, how numbers grow, a list gate by gate, and a
+-- column from its input on.
 pub mod Locality
 pub mod Growth
 pub mod Stepwise
-pub mod ByKind
 pub mod Starting

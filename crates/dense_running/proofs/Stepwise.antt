@@ -19,10 +19,6 @@ pub record ToRun (n : ℕ) (aim : State) (gs : List Gate) (xs : List ℤ) : Type
   pub ready : Ready n gs xs
   pub reaches : Agree n (run gs (amplitude_at xs)) aim
 
--- before the first
-pub none_run : (n : ℕ) (gs : List Gate) (xs : List ℤ) → Ready n gs xs → ToRun n (run gs (amplitude_at xs)) gs xs
-none_run n gs xs r = record { ready = r; reaches = λ w b. refl }
-
 -- the column's numbers are small enough for the next
 pub ready_small : (n : ℕ) (gs : List Gate) (xs : List ℤ) → Ready n gs xs → AllSized n most_doublings (amplitude_at xs)
 ready_small n gs xs r w b = sized_more (most_doublings - h_gates gs) most_doublings (amplitude_at xs w) (omega arith) (r.sized w b)
@@ -30,6 +26,10 @@ ready_small n gs xs r w b = sized_more (most_doublings - h_gates gs) most_doubli
 -- states that agree have one size
 pub agree_sized : (n k : ℕ) (φ ψ : State) → Agree n φ ψ → AllSized n k ψ → AllSized n k φ
 agree_sized n k φ ψ same s w b = subst (λ z. Sized k z) (sym (same w b)) (s w b)
+
+-- before the first
+pub none_run : (n : ℕ) (gs : List Gate) (xs : List ℤ) → Ready n gs xs → ToRun n (run gs (amplitude_at xs)) gs xs
+none_run n gs xs r = record { ready = r; reaches = λ w b. refl }
 
 -- after one
 pub one_run : (n : ℕ) (aim : State) (g : Gate) (gs : List Gate) (xs ys : List ℤ) → ToRun n aim (g ∷ gs) xs → Holds n (apply g (amplitude_at xs)) ys →

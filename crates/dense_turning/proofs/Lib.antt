@@ -1,3 +1,2 @@
--- Laws of turns and exchanges. In order: gates local to the places of a key, one turn of each gate's pass.
-pub mod Local
+-- Laws of turns and exchanges: one turn of each gate's pass.
 pub mod Turns

@@ -4,7 +4,7 @@ use mathlib.Core.Path.{◌≡◌, refl, sym, ◌∙◌, ap}
 use mathlib.Core.Logic.{◌≢◌}
 use mathlib.Core.List.{List}
 use mathlib.Core.Bool.{Bool, true, false, xor, false≢true}
-use Prim.Native.Nat.{ℕ, ◌+◌, ◌*◌, ◌^◌, ◌<◌, ◌≤◌}
+use Prim.Native.Nat.{ℕ, ◌+◌, ◌*◌, ◌^◌, ◌≤◌}
 use native.Mathlib.Omega.{arith}
 use lib.ListN.{length}
 use lib.IntN.{ℤ}
@@ -12,13 +12,13 @@ use Rattle.record_format.specs.Gate.{two, CX, SWAP}
 use Rattle.amplitude.specs.Number.{ω^}
 use Rattle.amplitude.specs.Bits.{bit, put}
 use Rattle.amplitude.specs.Circuit.{State, apply}
-use Rattle.amplitude.proofs.BitLaws.{bit_put_same, bit_put_other, put_put_same, put_put_other, put_below}
+use Rattle.amplitude.proofs.BitLaws.{bit_put_same, bit_put_other, put_put_same, put_put_other}
 use Rattle.dense_columns.specs.Columns.{amplitude_at, stored, Turned, itself}
 use Rattle.dense_columns.proofs.Places.{length-stored, stored_same, stored_other}
 use Rattle.dense_columns.proofs.Passes.{point_turned, point_kept}
-use Rattle.dense_columns.proofs.Pairs.{put_own, pair_turned}
-use Rattle.dense_turning.specs.Turns.{turned_where, crossed}
-use Rattle.dense_turning.proofs.Local.{lowest, lowest_put}
+use Rattle.dense_columns.proofs.Pairs.{put_own, Pair, pair_turned}
+use Rattle.dense_turning.specs.Turns.{turned_where, crossed, lowest}
+use Rattle.dense_turning.specs.Local.{lowest_put}
 
 -- a place where both bits are 1 is turned
 pub both_turned : (n a b k w : ℕ) (xs : List ℤ) → 4 * w + 4 ≤ length xs → bit a w ≡ true → bit b w ≡ true →
@@ -34,16 +34,16 @@ pub second_kept : (n a b k w : ℕ) (xs : List ℤ) → bit a w ≡ true → bit
 second_kept n a b k w xs p q = point_kept n w (turned_where a b k) xs (unfold turned_where in rw (p, q))
 
 -- a pair is exchanged and turned
-pub crossed_turned : (n q b c w high : ℕ) (xs : List ℤ) → q < n → w < 2 ^ n → 4 * 2 ^ n ≤ length xs → bit q w ≡ false → high ≡ put q true w →
+pub crossed_turned : {n q w high : ℕ} (b c : ℕ) (xs : List ℤ) → Pair n q w high → 4 * 2 ^ n ≤ length xs →
     Turned n (put q false) (crossed q b c) w xs (stored (stored xs w (ω^ b (amplitude_at xs high))) high (ω^ c (amplitude_at xs w)))
-crossed_turned n q b c w high xs qn wn room low e =
-    rw e (pair_turned n q w (crossed q b c) (ω^ b (amplitude_at xs (put q true w))) (ω^ c (amplitude_at xs w)) xs qn wn room low at_low at_high)
+crossed_turned {n} {q} {w} {high} b c xs pair room =
+    pair_turned (crossed q b c) (ω^ b (amplitude_at xs high)) (ω^ c (amplitude_at xs w)) xs pair room at_low at_high
   where
-    at_low : ω^ b (amplitude_at xs (put q true w)) ≡ crossed q b c (amplitude_at xs) w
-    at_low = unfold crossed in rw low
+    at_low : ω^ b (amplitude_at xs high) ≡ crossed q b c (amplitude_at xs) w
+    at_low = unfold crossed in rw (pair.low, pair.is)
 
-    at_high : ω^ c (amplitude_at xs w) ≡ crossed q b c (amplitude_at xs) (put q true w)
-    at_high = unfold crossed in rw (bit_put_same q true w, put_put_same q false true w, put_own q false w low)
+    at_high : ω^ c (amplitude_at xs w) ≡ crossed q b c (amplitude_at xs) high
+    at_high = unfold crossed in rw (pair.joined, ap (bit q) pair.is ∙ bit_put_same q true w)
 
 -- where the control is 0, CX leaves the pair as it is
 pub cx_kept : (n a b w : ℕ) (xs : List ℤ) → a ≢ b → bit a w ≡ false → Turned n (put b false) (apply (two CX a b)) w xs xs
@@ -57,18 +57,19 @@ cx_kept n a b w xs ne e = record { here = λ u l h. place u (bit b u) h refl; ot
     place u false h s = unfold apply xor in rw (control u h, s, put_own b false u s)
 
 -- where it is 1, CX exchanges the pair
-pub cx_turned : (n a b w high : ℕ) (xs : List ℤ) → a ≢ b → b < n → w < 2 ^ n → 4 * 2 ^ n ≤ length xs → bit b w ≡ false → bit a w ≡ true →
-    high ≡ put b true w → Turned n (put b false) (apply (two CX a b)) w xs (stored (stored xs w (amplitude_at xs high)) high (amplitude_at xs w))
-cx_turned n a b w high xs ne bn wn room low on e =
-    rw e (pair_turned n b w (apply (two CX a b)) (amplitude_at xs (put b true w)) (amplitude_at xs w) xs bn wn room low at_low at_high)
+pub cx_turned : {n b w high : ℕ} (a : ℕ) (xs : List ℤ) → a ≢ b → Pair n b w high → 4 * 2 ^ n ≤ length xs → bit a w ≡ true →
+    Turned n (put b false) (apply (two CX a b)) w xs (stored (stored xs w (amplitude_at xs high)) high (amplitude_at xs w))
+cx_turned {n} {b} {w} {high} a xs ne pair room on =
+    pair_turned (apply (two CX a b)) (amplitude_at xs high) (amplitude_at xs w) xs pair room at_low at_high
   where
-    at_low : amplitude_at xs (put b true w) ≡ apply (two CX a b) (amplitude_at xs) w
-    at_low = unfold apply xor in rw (on, low)
+    at_low : amplitude_at xs high ≡ apply (two CX a b) (amplitude_at xs) w
+    at_low = unfold apply xor in rw (on, pair.low) (ap (amplitude_at xs) pair.is)
 
-    at_high : amplitude_at xs w ≡ apply (two CX a b) (amplitude_at xs) (put b true w)
+    at_high : amplitude_at xs w ≡ apply (two CX a b) (amplitude_at xs) high
     at_high =
         unfold apply xor in
-        rw (bit_put_other a b true w ne, on, bit_put_same b true w) (ap (amplitude_at xs) (sym (put_put_same b false true w ∙ put_own b false w low)))
+        rw (ap (bit a) pair.is ∙ bit_put_other a b true w ne ∙ on, ap (bit b) pair.is ∙ bit_put_same b true w)
+        (ap (amplitude_at xs) (sym pair.joined))
 
 -- both bits of the lowest are 0
 lowest_bits : (a b w u : ℕ) → a ≢ b → lowest a b u ≡ w → (bit a w ≡ false) × (bit b w ≡ false)
@@ -88,10 +89,9 @@ second_not_lowest n a b w F xs ne e =
     record { here = λ u l h. absurd (false≢true (sym (lowest_bits a b w u ne h).1 ∙ e)); others = λ u l h. refl }
 
 -- at the lowest of four places SWAP exchanges the two that have one of its bits
-pub swap_turned : (n a b w p q : ℕ) (xs : List ℤ) → a < n → b < n → a ≢ b → w < 2 ^ n → 4 * 2 ^ n ≤ length xs → bit a w ≡ false →
-    bit b w ≡ false → p ≡ put a true w → q ≡ put b true w →
+pub swap_turned : {n a b w p q : ℕ} (xs : List ℤ) → Pair n a w p → Pair n b w q → a ≢ b → 4 * 2 ^ n ≤ length xs →
     Turned n (lowest a b) (apply (two SWAP a b)) w xs (stored (stored xs p (amplitude_at xs q)) q (amplitude_at xs p))
-swap_turned n a b w p q xs an bn ne wn room low-a low-b ep eq =
+swap_turned {n} {a} {b} {w} {p} {q} xs first_pair second_pair ne room =
     record { here = λ u l h. place u (bit a u) (bit b u) h refl refl; others = λ u l h. rest u (λ e. h (ap (lowest a b) e ∙ of_p)) (λ e. h (ap (lowest a b) e ∙ of_q)) }
   where
     en : b ≡ a → ⊥
@@ -102,42 +102,36 @@ swap_turned n a b w p q xs an bn ne wn room low-a low-b ep eq =
 
     -- the bits of the two
     p_a : bit a p ≡ true
-    p_a = ap (bit a) ep ∙ bit_put_same a true w
+    p_a = ap (bit a) first_pair.is ∙ bit_put_same a true w
 
     p_b : bit b p ≡ false
-    p_b = ap (bit b) ep ∙ bit_put_other b a true w en ∙ low-b
+    p_b = ap (bit b) first_pair.is ∙ bit_put_other b a true w en ∙ second_pair.low
 
     q_a : bit a q ≡ false
-    q_a = ap (bit a) eq ∙ bit_put_other a b true w ne ∙ low-a
+    q_a = ap (bit a) second_pair.is ∙ bit_put_other a b true w ne ∙ first_pair.low
 
     q_b : bit b q ≡ true
-    q_b = ap (bit b) eq ∙ bit_put_same b true w
+    q_b = ap (bit b) second_pair.is ∙ bit_put_same b true w
 
     -- the two by any of the four
     first : (u : ℕ) → lowest a b u ≡ w → put a true (put b false u) ≡ p
-    first u h = sym (ep ∙ ap (put a true) (sym h) ∙ put_put_same a true false (put b false u))
+    first u h = sym (first_pair.is ∙ ap (put a true) (sym h) ∙ put_put_same a true false (put b false u))
 
     second : (u : ℕ) → lowest a b u ≡ w → put a false (put b true u) ≡ q
     second u h =
-        sym (eq ∙ ap (put b true) (sym h) ∙ put_put_other b a true false (put b false u) en ∙ ap (put a false) (put_put_same b true false u))
+        sym (second_pair.is ∙ ap (put b true) (sym h) ∙ put_put_other b a true false (put b false u) en ∙ ap (put a false) (put_put_same b true false u))
 
     own : (u : ℕ) (x y : Bool) → bit a u ≡ x → bit b u ≡ y → put a x (put b y u) ≡ u
     own u x y ea eb = ap (put a x) (put_own b y u eb) ∙ put_own a x u ea
 
     self : lowest a b w ≡ w
-    self = own w false false low-a low-b
+    self = own w false false first_pair.low second_pair.low
 
     of_p : lowest a b p ≡ w
     of_p = ap (lowest a b) (sym (first w self)) ∙ lowest_put a b w true false ne ∙ self
 
     of_q : lowest a b q ≡ w
     of_q = ap (lowest a b) (sym (second w self)) ∙ lowest_put a b w false true ne ∙ self
-
-    p_below : p < 2 ^ n
-    p_below = rw ep (put_below n a true w an wn)
-
-    q_below : q < 2 ^ n
-    q_below = rw eq (put_below n b true w bn wn)
 
     rest : (u : ℕ) → (u ≡ p → ⊥) → (u ≡ q → ⊥) → amplitude_at ys u ≡ amplitude_at xs u
     rest u np nq = stored_other (stored xs p (amplitude_at xs q)) q (amplitude_at xs p) u nq ∙ stored_other xs p (amplitude_at xs q) u np
@@ -155,9 +149,9 @@ swap_turned n a b w p q xs an bn ne wn room low-a low-b ep eq =
     place u true false h ea eb =
         ap (amplitude_at ys) (sym (own u true false ea eb) ∙ first u h)
         ∙ stored_other (stored xs p (amplitude_at xs q)) q (amplitude_at xs p) p (λ e. false≢true (sym q_a ∙ sym (ap (bit a) e) ∙ p_a))
-        ∙ stored_same xs p (amplitude_at xs q) (omega (arith, p_below))
+        ∙ stored_same xs p (amplitude_at xs q) (omega (arith, first_pair.top))
         ∙ (unfold apply in rw (ea, eb, second u h))
     place u false true h ea eb =
         ap (amplitude_at ys) (sym (own u false true ea eb) ∙ second u h)
-        ∙ stored_same (stored xs p (amplitude_at xs q)) q (amplitude_at xs p) (omega (arith, length-stored xs p (amplitude_at xs q), q_below))
+        ∙ stored_same (stored xs p (amplitude_at xs q)) q (amplitude_at xs p) (omega (arith, length-stored xs p (amplitude_at xs q), second_pair.top))
         ∙ (unfold apply in rw (ea, eb, first u h))

@@ -21,8 +21,8 @@ use Rattle.dense_meaning.proofs.Theorems.{found_if_carried, shown_is_first, show
 use Rattle.dense_types.specs.Call.{Found, found, compare_columns, found_of, said_of, dense_comparison}
 use Rattle.dense_types.specs.Clauses.{ExactlyDecided, ShownApart, ShownFirst, ShownAsSaid, ForFound, Exact, Sound, First, Inputs, SameVerdict, Agrees}
 use Rattle.dense_types.specs.declared.Outcome.{Outcome}
-use Rattle.dense_types.specs.declared.Answer.{Answer}
-use Rattle.dense_types.specs.declared.Answer.TheVariants.{Compared}
+use Rattle.comparison_types.specs.declared.Refusal.{Refusal}
+use Rattle.std.specs.Prelude.{Result as Returned, Ok}
 use Rattle.dense_types.proofs.Theorems.{block_accepted_by_no_row}
 
 -- what a verdict says of a power of ω: equal that it is 0, turned that it is not; the others are said of none
@@ -107,9 +107,9 @@ both_accepted s t w c r said =
     (first_accepted s t rows free, rw (same_qubits s t rows free) (second_accepted s t rows free))
 
 -- the answer that is said
-module _ (s t : List ℕ) (k : ℕ) (a : Answer) (steps : said_of a ≡ dense_comparison s t k) where
+module _ (s t : List ℕ) (k : ℕ) (a : Returned Outcome Refusal) (steps : said_of a ≡ dense_comparison s t k) where
   -- an outcome is what the columns of both lists show
-  outcome : (o : Outcome) → a ≡ Compared o → found_of o ≡ compare_columns (qubits s) (gates s) (gates t)
+  outcome : (o : Outcome) → a ≡ Ok o → found_of o ≡ compare_columns (qubits s) (gates s) (gates t)
   outcome o is = ((block_accepted_by_no_row s t k (found_of o)).0 (sym steps ∙ ap said_of is)).1
 
   -- a demand that holds of what is found for all lists holds of it

@@ -1,6 +1,6 @@
 -- What the dense comparison answers and what the lent buffer holds afterwards: document 02, items 2 and 4.
 -- Assumes nothing.
-use Rattle.std.specs.Prelude.{ℕ, ◌+◌, ◌||◌, List, [], ◌∷◌, ◌++◌, drop, replicate, ltb, ℤ, pos}
+use Rattle.std.specs.Prelude.{ℕ, ◌+◌, ◌||◌, List, [], ◌∷◌, ◌++◌, drop, replicate, ltb, ℤ, pos, Result as Returned, Ok, Err}
 use Rattle.std.proofs.Math.Option.{Option, none, some}
 use Rattle.record_format.specs.Gate.{Gate}
 use Rattle.record_format.specs.Row.{Row}
@@ -11,9 +11,8 @@ use Rattle.record_format.specs.Pair.{PairFault, pair_row}
 use Rattle.comparison_types.specs.Call.{pair_fault, fault_of, verdict_of}
 use Rattle.dense_meaning.specs.Limits.{block_qubits, block_h_gates, buffer_size}
 use Rattle.dense_meaning.specs.Columns.{Finding, carried_by, unfit_at, finding}
+use Rattle.comparison_types.specs.declared.Refusal.{Refusal}
 use Rattle.dense_types.specs.declared.Outcome.{Outcome}
-use Rattle.dense_types.specs.declared.Answer.{Answer}
-use Rattle.dense_types.specs.declared.Answer.TheVariants.{Compared, Refused}
 
 -- what is found: the verdict and its two inputs (of turned: the power of ω, and 0)
 pub record Found : Type 0 where
@@ -40,9 +39,9 @@ abbrev pub found_of : Outcome → Found
 found_of o = record { verdict = verdict_of o.verdict; first = o.first; second = o.second }
 
 -- what an answer stands for
-abbrev pub said_of : Answer → Said
-said_of (Compared o) = says (found_of o)
-said_of (Refused r) = refuses (fault_of r)
+abbrev pub said_of : Returned Outcome Refusal → Said
+said_of (Ok o) = says (found_of o)
+said_of (Err r) = refuses (fault_of r)
 
 -- the call's own rows, below those of the pair: 14 where n or the H gates of both lists are too many, 10 where the buffer has too few of
 -- its k numbers

@@ -1,16 +1,15 @@
 -- What the contract of the dense comparison says of the answer a that it returns for the bytes s and t.
 -- Assumes nothing.
-use Rattle.std.specs.Prelude.{◌≡◌, ℕ, ◌^◌, ◌<◌, List}
+use Rattle.std.specs.Prelude.{◌≡◌, ℕ, ◌^◌, ◌<◌, List, Result as Returned, Ok}
 use Rattle.record_format.specs.Gate.{Gate}
 use Rattle.amplitude.specs.Circuit.{Fits}
 use Rattle.comparison_meaning.specs.Verdict.{Result, equal, different, undecided, turned}
 use Rattle.comparison_meaning.specs.Demands.{Accepted, OnePower, DecidedBy}
 use Rattle.comparison_types.specs.Call.{comparison, says}
 use Rattle.dense_meaning.specs.Demands.{FitsUpTo, SomeFitsUpTo}
+use Rattle.comparison_types.specs.declared.Refusal.{Refusal}
 use Rattle.dense_types.specs.Call.{Found, found_of}
 use Rattle.dense_types.specs.declared.Outcome.{Outcome}
-use Rattle.dense_types.specs.declared.Answer.{Answer}
-use Rattle.dense_types.specs.declared.Answer.TheVariants.{Compared}
 
 module _ (n : ℕ) (first second : List Gate) where
   -- equal exactly where all amplitudes agree, turned with j exactly where ω^j, j from 1 to 7, carries the pair, different exactly where no
@@ -39,24 +38,24 @@ module _ (n : ℕ) (first second : List Gate) where
   ShownAsSaid r = (r.verdict ≡ equal → (r.first ≡ 0) × (r.second ≡ 0)) × (r.verdict ≡ turned → r.second ≡ 0)
 
 -- a demand, for the outcome of two accepted records
-abbrev pub ForFound : List ℕ → List ℕ → Answer → (ℕ → List Gate → List Gate → Found → Type 0) → Type 0
+abbrev pub ForFound : List ℕ → List ℕ → Returned Outcome Refusal → (ℕ → List Gate → List Gate → Found → Type 0) → Type 0
 ForFound s t a Demand =
-    (n : ℕ) (first second : List Gate) (o : Outcome) → Accepted s t n first second → a ≡ Compared o → Demand n first second (found_of o)
+    (n : ℕ) (first second : List Gate) (o : Outcome) → Accepted s t n first second → a ≡ Ok o → Demand n first second (found_of o)
 
 -- exact: each verdict if and only if it is right, and which power turns the pair
-abbrev pub Exact : List ℕ → List ℕ → Answer → Type 0
+abbrev pub Exact : List ℕ → List ℕ → Returned Outcome Refusal → Type 0
 Exact s t a = ForFound s t a (λ n first second r. ExactlyDecided n first second r)
 
 -- sound: the two shown columns fit no single power
-abbrev pub Sound : List ℕ → List ℕ → Answer → Type 0
+abbrev pub Sound : List ℕ → List ℕ → Returned Outcome Refusal → Type 0
 Sound s t a = ForFound s t a (λ n first second r. ShownApart n first second r)
 
 -- first: no smaller input would do
-abbrev pub First : List ℕ → List ℕ → Answer → Type 0
+abbrev pub First : List ℕ → List ℕ → Returned Outcome Refusal → Type 0
 First s t a = ForFound s t a (λ n first second r. ShownFirst n first second r)
 
 -- inputs: 0 and 0 where equal, the second 0 where turned
-abbrev pub Inputs : List ℕ → List ℕ → Answer → Type 0
+abbrev pub Inputs : List ℕ → List ℕ → Returned Outcome Refusal → Type 0
 Inputs s t a = ForFound s t a (λ n first second r. ShownAsSaid n first second r)
 
 -- the same verdict, and where that is turned the same power of ω
@@ -64,6 +63,6 @@ abbrev pub SameVerdict : Found → Result → Type 0
 SameVerdict f r = (f.verdict ≡ r.verdict) × (r.verdict ≡ turned → f.first ≡ r.first)
 
 -- agrees: wherever the path-sum comparison of the same records, lent whatever workspaces, is not undecided, verdict and power are the same
-abbrev pub Agrees : List ℕ → List ℕ → Answer → Type 0
+abbrev pub Agrees : List ℕ → List ℕ → Returned Outcome Refusal → Type 0
 Agrees s t a =
-    (o : Outcome) (w c : ℕ) (r : Result) → a ≡ Compared o → comparison s t w c ≡ says r → (r.verdict ≡ undecided → ⊥) → SameVerdict (found_of o) r
+    (o : Outcome) (w c : ℕ) (r : Result) → a ≡ Ok o → comparison s t w c ≡ says r → (r.verdict ≡ undecided → ⊥) → SameVerdict (found_of o) r

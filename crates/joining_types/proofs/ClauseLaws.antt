@@ -9,6 +9,7 @@ use mathlib.Core.List.{List, [], ◌∷◌, ◌++◌}
 use lib.ListN.{length, drop, length-append}
 use lib.Dec.{eqb, ltb}
 use borrow.Author.Tests.{eqb-true, ltb-false, not-false}
+use Rattle.std.specs.Prelude.{Result}
 use Rattle.record_format.specs.Format.{most_qubits, most_gates}
 use Rattle.record_format.specs.Gate.{Gate, AllWithin, shift_list}
 use Rattle.record_format.specs.Row.{Row, first}
@@ -28,7 +29,7 @@ use Rattle.amplitude.proofs.Composition.{in_time}
 use Rattle.amplitude.proofs.Tensor.{in_space}
 use Rattle.joining_types.specs.Call.{joined_answer, size_rows, time_rows, space_rows, list_in_time, list_in_space, time_record, space_record, join_in_time, join_in_space}
 use Rattle.joining_types.specs.Clauses.{AddsUp, InTime, InSpace, WhereWritten}
-use Rattle.joining_types.specs.declared.Joined.{Joined}
+use Rattle.joining_types.specs.declared.Refusal.{Refusal}
 
 -- an outcome that gives values is stopped by nothing, and the new record stands in the buffer
 pub record Stands (rows : List (Row PairFault)) (new l after : List ℕ) : Type 0 where
@@ -148,14 +149,14 @@ space_written s t l values h = space_stands s t l _ (stands (space_rows s t l) (
 
 -- the clause of the join in time
 pub time_composed :
-    (s t l : List ℕ) (r : Joined)
+    (s t l : List ℕ) (r : Result ℕ Refusal)
     → joined_answer r ≡ (join_in_time s t l).answer
     → WhereWritten r (InTime s t (join_in_time s t l).buffer)
 time_composed s t l r answers k is = time_written s t l (k ∷ []) (sym (rw is at answers))
 
 -- and that of the join in space
 pub space_composed :
-    (s t l : List ℕ) (r : Joined)
+    (s t l : List ℕ) (r : Result ℕ Refusal)
     → joined_answer r ≡ (join_in_space s t l).answer
     → WhereWritten r (InSpace s t (join_in_space s t l).buffer)
 space_composed s t l r answers k is = space_written s t l (k ∷ []) (sym (rw is at answers))

@@ -1,7 +1,7 @@
 -- What the joins answer and what the lent buffer then holds: document 02, item 5. Both put the second list behind the first, in one record; in
 -- space the second list's qubits are numbered after the first's.
 -- Assumes nothing.
-use Rattle.std.specs.Prelude.{ℕ, ◌+◌, not, List, [], ◌∷◌, ◌++◌, length, eqb, ltb}
+use Rattle.std.specs.Prelude.{ℕ, ◌+◌, not, List, [], ◌∷◌, ◌++◌, length, eqb, ltb, Result, Ok, Err}
 use Rattle.record_format.specs.Format.{most_qubits, most_gates}
 use Rattle.record_format.specs.Gate.{Gate, shift_list}
 use Rattle.record_format.specs.Row.{Row, first}
@@ -12,8 +12,6 @@ use Rattle.record_format.specs.Writing.{Outcome, outcome, encode}
 use Rattle.record_format.specs.Pair.{PairFault, in_first, in_second, of_pair, number_in, pair_row, both_rows}
 use Rattle.joining_types.specs.declared.Refusal.{Refusal}
 use Rattle.joining_types.specs.declared.Refusal.TheVariants.{First, Second, QubitsDiffer, TooManyQubits, TooManyGates, BufferShort}
-use Rattle.joining_types.specs.declared.Joined.{Joined}
-use Rattle.joining_types.specs.declared.Joined.TheVariants.{Length, Refused}
 
 -- what a refusal says: the list, the number and the index, or the number of both together
 abbrev pub fault_of : Refusal → PairFault
@@ -29,9 +27,9 @@ abbrev pub number_of : Refusal → ℕ
 number_of r = number_in (fault_of r)
 
 -- what a join answered
-abbrev pub joined_answer : Joined → Answer PairFault
-joined_answer (Length k) = gives (k ∷ [])
-joined_answer (Refused r) = refuses (fault_of r)
+abbrev pub joined_answer : Result ℕ Refusal → Answer PairFault
+joined_answer (Ok k) = gives (k ∷ [])
+joined_answer (Err r) = refuses (fault_of r)
 
 -- the last two checks of a join that writes k gates: 4, then 11
 abbrev pub size_rows : ℕ → List ℕ → List (Row PairFault)

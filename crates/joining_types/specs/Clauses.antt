@@ -2,14 +2,13 @@
 -- amplitudes. `amplitudes` is of unscaled H, as amplitude's Composition says; since `counts` has the H gates added up, the true amplitudes,
 -- which are these divided by √2 once for each H gate, fulfil the same equations.
 -- Assumes nothing.
-use Rattle.std.specs.Prelude.{◌≡◌, ℕ, ◌+◌, List, length}
+use Rattle.std.specs.Prelude.{◌≡◌, ℕ, ◌+◌, List, length, Result, Ok}
 use Rattle.record_format.specs.Gate.{Gate}
 use Rattle.record_format.specs.Reading.{accepted, read}
 use Rattle.amplitude.specs.Circuit.{h_gates, t_gates}
 use Rattle.amplitude.specs.Composition.{MatrixProduct, TensorProduct}
 use Rattle.joining_types.specs.Call.{list_in_time, list_in_space}
-use Rattle.joining_types.specs.declared.Joined.{Joined}
-use Rattle.joining_types.specs.declared.Joined.TheVariants.{Length}
+use Rattle.joining_types.specs.declared.Refusal.{Refusal}
 
 -- the gates of two lists joined, their T gates and their H gates are the sums of those of the two
 pub record AddsUp (first second joined : List Gate) : Type 0 where
@@ -43,5 +42,5 @@ pub record InSpace (s t buffer : List ℕ) : Type 0 where
   pub amplitudes : TensorProduct n m first second (list_in_space n first second)
 
 -- so it is where the call answered a length
-abbrev pub WhereWritten : Joined → Type 0 → Type 0
-WhereWritten r Claim = (k : ℕ) → r ≡ Length k → Claim
+abbrev pub WhereWritten : Result ℕ Refusal → Type 0 → Type 0
+WhereWritten r Claim = (k : ℕ) → r ≡ Ok k → Claim

@@ -1,31 +1,34 @@
 -- What the layer's private functions do, for their contracts. No contract of a public call cites anything of this file.
 -- Assumes nothing.
-use Rattle.std.specs.Prelude.{◌≡◌, ℕ, ◌+◌, cond, List, [], ◌∷◌, ◌++◌, leb}
+use Rattle.std.specs.Prelude.{◌≡◌, ℕ, ◌+◌, ◌%◌, ◌≤◌, cond, List, [], ◌∷◌, ◌++◌, length, leb, Result, Ok, Err}
 use Rattle.std.proofs.Math.Option.{none, some}
-use Rattle.record_format.specs.Format.{last_one_qubit}
-use Rattle.record_format.specs.Gate.{shift_list}
+use Rattle.record_format.specs.Format.{gate_size, most_qubits, last_one_qubit}
+use Rattle.record_format.specs.Gate.{Gate, AllWithin}
 use Rattle.record_format.specs.Row.{first}
-use Rattle.record_format.specs.Reading.{qubits, count, gates, record_rows}
+use Rattle.record_format.specs.Reading.{size, qubits, count, gates_in, record_rows}
 use Rattle.record_format.specs.Writing.{Outcome, outcome, encode}
 use Rattle.record_format.specs.Pair.{PairFault, both_rows}
+use Rattle.record_format.specs.declared.Head.{Head}
 use Rattle.joining_types.specs.Call.{fault_of, size_rows}
-use Rattle.joining_types.specs.declared.Both.{Both}
-use Rattle.joining_types.specs.declared.Both.TheVariants.{Read, Refused}
+use Rattle.joining_types.specs.declared.Refusal.{Refusal}
 
--- an accepted record of g gates on n qubits stands at the start of s
-pub record Holds (n g : ℕ) (s : List ℕ) : Type 0 where
+-- an accepted record with this head stands at the start of s
+pub record Holds (head : Head) (s : List ℕ) : Type 0 where
   pub good : first (record_rows s) ≡ none
-  pub n_is : n ≡ qubits s
-  pub g_is : g ≡ count s
-
--- an accepted record of g gates does
-abbrev pub Listed : ℕ → List ℕ → Type 0
-Listed g s = (first (record_rows s) ≡ none) × (g ≡ count s)
+  pub n_is : head.n ≡ qubits s
+  pub g_is : head.g ≡ count s
+  pub few_qubits : head.n ≤ most_qubits
+  pub all : size head.g ≤ length s
 
 -- what reading two records found is so
-abbrev pub FoundBoth : List ℕ → List ℕ → Both → Type 0
-FoundBoth s t (Read n g m h) = Holds n g s × Holds m h t
-FoundBoth s t (Refused r) = first (both_rows s t []) ≡ some (fault_of r)
+abbrev pub FoundBoth : List ℕ → List ℕ → Result (Head × Head) Refusal → Type 0
+FoundBoth s t (Ok heads) = Holds heads.0 s × Holds heads.1 t
+FoundBoth s t (Err r) = first (both_rows s t []) ≡ some (fault_of r)
+
+-- the bytes are those of whole gates within 16 qubits
+pub record WholeGates (bytes : List ℕ) : Type 0 where
+  pub whole : length bytes % gate_size ≡ 0
+  pub within : AllWithin most_qubits (gates_in bytes)
 
 -- a gate's three bytes with its qubits k further on: b of a gate on one qubit stays
 abbrev pub shift_three : ℕ → ℕ → ℕ → ℕ → List ℕ
@@ -38,7 +41,6 @@ shift_bytes k (kind ∷ []) = []
 shift_bytes k (kind ∷ a ∷ []) = []
 shift_bytes k (kind ∷ a ∷ b ∷ rest) = shift_three k kind a b ++ shift_bytes k rest
 
--- what writing two accepted lists as one record on n qubits, the second's qubits k further on, answers and leaves: 4, then 11
-abbrev pub written : ℕ → ℕ → List ℕ → List ℕ → List ℕ → Outcome PairFault
-written n k s t buffer =
-    outcome (first (size_rows (count s + count t) buffer)) (encode n (gates s ++ shift_list k (gates t))) buffer
+-- what writing two lists as one record on n qubits answers and leaves: 4, then 11
+abbrev pub written : ℕ → List Gate → List Gate → List ℕ → Outcome PairFault
+written n gs hs buffer = outcome (first (size_rows (length gs + length hs) buffer)) (encode n (gs ++ hs)) buffer

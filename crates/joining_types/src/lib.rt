@@ -5,7 +5,7 @@ ghost use Rattle.std.specs.Prelude.{◌≡◌};
 ghost use Rattle.joining_types.specs.Call.{number_of};
 
 // Why a join is refused. specs/Call.antt gives each case the table's number and, for a list, the index of its gate.
-#[derive(Clone, Copy)]
+#[derive(Clone, Copy, Debug, PartialEq, Eq)]
 pub enum Refusal {
     // 1 to 7 and 13: the first list
     First(record_format::Refusal),
@@ -21,35 +21,17 @@ pub enum Refusal {
     BufferShort,
 }
 
-// What a join answers: the length of the record that it wrote, or why it wrote nothing.
-#[derive(Clone, Copy)]
-pub enum Joined {
-    Length(usize),
-    Refused(Refusal),
-}
-
-// What reading two records finds: the qubits and gates of the first, those of the second; or why the call is refused.
-#[derive(Clone, Copy)]
-pub enum Both {
-    Read {
-        n: usize,
-        g: usize,
-        m: usize,
-        h: usize,
-    },
-    Refused(Refusal),
-}
-
 // The number of a refusal.
-pub fn number(r: Refusal) -> u8
-    ensures { result ≡ number_of r }
-{
-    match r {
-        Refusal::First(refusal) => record_bytes::number(refusal),
-        Refusal::Second(refusal) => record_bytes::number(refusal),
-        Refusal::QubitsDiffer => 8,
-        Refusal::TooManyQubits => 3,
-        Refusal::TooManyGates => 4,
-        Refusal::BufferShort => 11,
+impl From<Refusal> for u8 {
+    ghost from_gives = { λ refusal number. number ≡ number_of refusal };
+
+    fn from(refusal: Refusal) -> u8 {
+        match refusal {
+            Refusal::First(of_list) | Refusal::Second(of_list) => u8::from(of_list),
+            Refusal::QubitsDiffer => 8,
+            Refusal::TooManyQubits => 3,
+            Refusal::TooManyGates => 4,
+            Refusal::BufferShort => 11,
+        }
     }
 }

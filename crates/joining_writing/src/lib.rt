@@ -1,68 +1,71 @@
 // Two accepted lists written as one record, the second list's qubits numbered further on. Inner: licensees use `joining`.
 #![tactic(auto)]
 
-ghost use Rattle.std.specs.Prelude.{◌≡◌, ◌+◌, ◌%◌, ◌≤◌, ◌++◌, length, take, drop};
-ghost use Rattle.record_format.specs.Format.{gate_size, most_qubits};
-ghost use Rattle.record_format.specs.Gate.{Within, AllWithin, gate_of, raw};
+ghost use Rattle.std.specs.Prelude.{◌≡◌, ◌+◌, ◌≤◌, ◌++◌, length, take, drop};
+ghost use Rattle.record_format.specs.Format.{most_qubits};
+ghost use Rattle.record_format.specs.Gate.{Within, body_bytes, shift_gate, shift_list};
 ghost use Rattle.record_format.specs.Reading.{gates_in};
+ghost use Rattle.record_format.specs.Typed.{gate_in};
 ghost use Rattle.joining_types.specs.Call.{joined_answer};
-ghost use Rattle.joining_types.specs.Inner.{Listed, shift_three, shift_bytes, written};
+ghost use Rattle.joining_types.specs.Inner.{WholeGates, written};
 
-use joining_types::{Joined, Refusal};
-use record_bytes::LAST_ONE_QUBIT;
+use joining_types::Refusal;
+use record_format::gate::Gate;
 use record_format::{GATE_SIZE, HEAD_SIZE};
-use record_reading::{MOST_GATES, gate_bytes};
+use record_reading::MOST_GATES;
 use record_writing::{write_gate, write_head};
 
-// A gate's three bytes at a place of a buffer, its qubits numbered further on by a shift. b of a gate on one qubit stays.
-fn write_shifted(buffer: &mut [u8], at: usize, shift: u8, kind: u8, a: u8, b: u8)
-    requires { (at + gate_size ≤ length buffer.old) × (shift ≤ most_qubits) × Within most_qubits (gate_of (raw kind a b)) }
-    ensures { buffer.new ≡ take at buffer.old ++ shift_three shift kind a b ++ drop (at + gate_size) buffer.old }
+// A gate with its qubits numbered further on by a shift.
+#[tactic(auto, unfolding(record_format::specs::Gate::shift_gate))]
+fn shifted(gate: Gate, shift: u8) -> Gate
+    requires { (shift ≤ most_qubits) × Within most_qubits (gate_in gate) }
+    ensures { gate_in result ≡ shift_gate shift (gate_in gate) }
 {
-    if kind <= LAST_ONE_QUBIT {
-        write_gate(buffer, at, kind, shift + a, b);
-        return;
+    match gate {
+        Gate::One { kind, q } => Gate::One { kind, q: shift + q },
+        Gate::Two { kind, a, b } => Gate::Two {
+            kind,
+            a: shift + a,
+            b: shift + b,
+        },
     }
-    write_gate(buffer, at, kind, shift + a, shift + b);
 }
 
-// A list's gate bytes at a place of a buffer, its qubits numbered further on by a shift.
+// A list's gates at a place of a buffer, their qubits numbered further on by a shift.
 fn write_gates(buffer: &mut [u8], at: usize, shift: u8, gates: &[u8])
-    requires { (at + length gates.now ≤ length buffer.old) × (length gates.now % gate_size ≡ 0) × (shift ≤ most_qubits) × AllWithin most_qubits (gates_in gates.now) }
-    ensures { buffer.new ≡ take at buffer.old ++ shift_bytes shift gates.now ++ drop (at + length gates.now) buffer.old }
+    requires { (at + length gates.now ≤ length buffer.old) × (shift ≤ most_qubits) × WholeGates gates.now }
+    ensures { buffer.new ≡ take at buffer.old ++ body_bytes (shift_list shift (gates_in gates.now)) ++ drop (at + length gates.now) buffer.old }
 {
-    let mut i = 0;
-    while i < gates.len() {
-        write_shifted(buffer, at + i, shift, gates[i], gates[i + 1], gates[i + 2]);
-        i += GATE_SIZE;
+    for (i, bytes) in gates.as_chunks::<3>().0.iter().enumerate() {
+        let gate = shifted(Gate::from(*bytes), shift);
+        write_gate(buffer, at + GATE_SIZE * i, gate.into());
     }
 }
 
-// Two accepted lists of g and h gates as one record on n qubits at the front of the buffer, the second list's qubits numbered further on by a
+// The gates of two accepted lists as one record on n qubits at the front of the buffer, the second list's qubits numbered further on by a
 // shift: 4, then 11.
 pub fn write_joined(
-    first: &[u8],
-    g: usize,
-    second: &[u8],
-    h: usize,
     n: usize,
+    first: &[u8],
+    second: &[u8],
     shift: u8,
     buffer: &mut [u8],
-) -> Joined
-    requires { Listed g first.now × Listed h second.now × (n ≤ most_qubits) × (shift ≤ most_qubits) }
-    ensures answers { joined_answer result ≡ (written n shift first.now second.now buffer.old).answer }
-    ensures leaves { buffer.new ≡ (written n shift first.now second.now buffer.old).buffer }
+) -> Result<usize, Refusal>
+    requires { WholeGates first.now × WholeGates second.now × (n ≤ most_qubits) × (shift ≤ most_qubits) }
+    ensures answers { joined_answer result ≡ (written n (gates_in first.now) (shift_list shift (gates_in second.now)) buffer.old).answer }
+    ensures leaves { buffer.new ≡ (written n (gates_in first.now) (shift_list shift (gates_in second.now)) buffer.old).buffer }
 {
-    if g + h > MOST_GATES {
-        return Joined::Refused(Refusal::TooManyGates);
+    let gates = first.len() / GATE_SIZE + second.len() / GATE_SIZE;
+    if gates > MOST_GATES {
+        return Err(Refusal::TooManyGates);
     }
-    let behind = HEAD_SIZE + GATE_SIZE * g;
-    let size = behind + GATE_SIZE * h;
+    let behind = HEAD_SIZE + first.len();
+    let size = behind + second.len();
     if buffer.len() < size {
-        return Joined::Refused(Refusal::BufferShort);
+        return Err(Refusal::BufferShort);
     }
-    write_head(buffer, n as u8, (g + h) as u16);
-    write_gates(buffer, HEAD_SIZE, 0, gate_bytes(first, g));
-    write_gates(buffer, behind, shift, gate_bytes(second, h));
-    Joined::Length(size)
+    write_head(buffer, n as u8, gates as u16);
+    write_gates(buffer, HEAD_SIZE, 0, first);
+    write_gates(buffer, behind, shift, second);
+    Ok(size)
 }

@@ -1,10 +1,10 @@
 -- Worked cases of a line, by computation.
 -- Assumes nothing.
 use mathlib.Core.Path.{◌≡◌, refl}
-use mathlib.Core.List.{[], ◌∷◌}
-use Rattle.line_bytes.specs.Line.{digits, fields, refused_line}
+use Rattle.std.specs.Prelude.{codes}
+use Rattle.line_bytes.specs.Line.{digits, refused_line}
 
--- `refused 12` and a newline
-pub refused_line_lem : refused_line 12 ≡ 114 ∷ 101 ∷ 102 ∷ 117 ∷ 115 ∷ 101 ∷ 100 ∷ 32 ∷ 49 ∷ 50 ∷ 10 ∷ []
-unfolding digits fields
+-- of number 12
+pub refused_line_lem : refused_line 12 ≡ codes "refused 12\n"
+unfolding digits
 refused_line_lem = refl

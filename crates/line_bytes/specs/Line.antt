@@ -1,6 +1,7 @@
 -- Lines as ASCII bytes: document 01, "Pairs to try".
 -- Assumes nothing.
-use Rattle.std.specs.Prelude.{ℕ, zero, suc, ◌+◌, ◌*◌, ◌-◌, ◌/◌, ◌%◌, ◌≤◌, ◌≡◌, cond, List, [], ◌∷◌, ◌++◌, ltb, length, take, drop}
+use Rattle.std.specs.Prelude.{ℕ, zero, suc, ◌+◌, ◌*◌, ◌-◌, ◌/◌, ◌%◌, cond, List, [], ◌∷◌, ◌++◌, ltb, codes}
+use Rattle.std.specs.List.{flat_map}
 
 -- the byte of a decimal digit: 48 is `0`
 abbrev pub digit : ℕ → ℕ
@@ -25,9 +26,8 @@ abbrev pub field : ℕ → List ℕ
 field n = 32 ∷ decimal n
 
 -- numbers in order, a space before each
-unfoldable pub fields : List ℕ → List ℕ
-fields [] = []
-fields (n ∷ ns) = field n ++ fields ns
+abbrev pub fields : List ℕ → List ℕ
+fields ns = flat_map field ns
 
 -- a line: a word, numbers, a newline
 abbrev pub line_with : List ℕ → List ℕ → List ℕ
@@ -35,16 +35,8 @@ line_with word ns = word ++ fields ns ++ (10 ∷ [])
 
 -- `refused`
 abbrev pub refused_word : List ℕ
-refused_word = 114 ∷ 101 ∷ 102 ∷ 117 ∷ 115 ∷ 101 ∷ 100 ∷ []
+refused_word = codes "refused"
 
 -- the line of a refusal: `refused` and the number, no more
 abbrev pub refused_line : ℕ → List ℕ
 refused_line k = line_with refused_word (k ∷ [])
-
--- a text stands at the front of a buffer: r is its length, old the buffer before and new the buffer after; the bytes behind it are as
--- they were. The last two parts follow from the first two; they stand here so that a caller's `&line[..r]` asks for no proof
-pub record AtFront (text old : List ℕ) (r : ℕ) (new : List ℕ) : Type 0 where
-  pub end : r ≡ length text
-  pub leaves : new ≡ text ++ drop r old
-  pub fits : r ≤ length new
-  pub part : r ≡ length (take r new)

@@ -10,7 +10,9 @@ use mathlib.Core.List.{List, [], ◌∷◌}
 use native.Mathlib.Omega.{arith}
 use lib.Dec.{ltb}
 use lib.ListN.{length, take, drop, length-take, length-drop}
-use lib.Seq.{get_or-take, length-take-le, take-take, take_all, take-add, drop_at}
+use Rattle.std.proofs.lemmas.Bool.Decides.{nat_tests}
+use Rattle.std.proofs.lemmas.List.{drop-take}
+use lib.Seq.{get_or-take, take-take, take_all}
 use borrow.Author.Tests.{ltb-true, ltb-false, lt-ltb, le-ltb}
 use Rattle.record_format.specs.Format.{list_mark, head_size, gate_size, most_gates}
 use Rattle.record_format.specs.Gate.{Gate}
@@ -35,11 +37,8 @@ pub own_is_less : (s : List ℕ) → ltb (own_size s) (length s) ≡ goes_on s
 own_is_less s = same_test (own_size s) (length s) (size (count s)) (length s) (λ l. omega arith) (λ l. omega arith)
 
 -- what stands behind n of the first k bytes
-drop-take : (n k : ℕ) (s : List ℕ) → n ≤ k → n ≤ length s → drop n (take k s) ≡ take (k - n) (drop n s)
-drop-take n k s less inside =
-    let sum : k ≡ n + (k - n) = omega arith in
-    ap (λ (m : ℕ). drop n (take m s)) sum
-    ∙ (ap (drop n) (take-add n (k - n) s) ∙ drop_at (take n s) (take (k - n) (drop n s)) n (length-take-le n s inside))
+behind_cut : (n k : ℕ) (s : List ℕ) → n ≤ k → drop n (take k s) ≡ take (k - n) (drop n s)
+behind_cut n k s less = let sum : k ≡ n + (k - n) = omega arith in ap (λ (m : ℕ). drop n (take m s)) sum ∙ drop-take n (k - n) s
 
 -- all that stands behind n bytes
 pub all_behind : (n : ℕ) (s : List ℕ) → take (length s - n) (drop n s) ≡ drop n s
@@ -65,7 +64,7 @@ module _ (k : ℕ) (s : List ℕ) (head : head_size ≤ k) where
   -- whether there are fewer than n bytes is told by the first k, where n is not above k
   same_length : (n : ℕ) → n ≤ k → ltb (length (take k s)) n ≡ ltb (length s) n
   same_length n below =
-      let cut = length-take k s in same_test (length (take k s)) n (length s) n (λ l. omega arith) (λ l. omega arith)
+      let cut = length-take k s in grind (arith, nat_tests)
 
   -- so the head's rows are the same
   same_upper : upper (take k s) ≡ upper s
@@ -84,7 +83,7 @@ module _ (k : ℕ) (s : List ℕ) (head : head_size ≤ k) where
     -- the gates' bytes of a record that ends before the cut
     same_body : take (gate_size * count s) (drop head_size (take k s)) ≡ body s
     same_body =
-        rw (drop-take head_size k s head (omega arith))
+        rw (behind_cut head_size k s head)
         (take-take (gate_size * count s) (k - head_size) (drop head_size s) (omega arith))
 
     -- it has the same rows and the same gates
@@ -105,9 +104,7 @@ module _ (k : ℕ) (s : List ℕ) (head : head_size ≤ k) where
   -- where the cut is at least one byte behind the record, it tells whether bytes follow
   goes_cut : size (count s) < k → goes_on (take k s) ≡ goes_on s
   goes_cut fits =
-      let cut = length-take k s in
-      rw same_count
-      (same_test (size (count s)) (length (take k s)) (size (count s)) (length s) (λ l. omega arith) (λ l. omega arith))
+      let cut = length-take k s in rw same_count (grind (arith, nat_tests))
 
 -- the head of an accepted record
 accepted_head : {s : List ℕ} {n : ℕ} {gs : List Gate} → read s ≡ accepted n gs → GoodHead s
@@ -162,7 +159,7 @@ stream_cut s e =
     let long = length-take stream_size s in
     let own : own_size s ≡ k = omega (arith, head.whole) in
     let own' : own_size (take stream_size s) ≡ k = omega (arith, head.whole, head.few_gates) in
-    rw (own, own', drop-take k stream_size s (omega (arith, head.few_gates)) head.whole) (
+    rw (own, own', behind_cut k stream_size s (omega (arith, head.few_gates))) (
       take-take k stream_size s (omega (arith, head.few_gates)),
       tells_cut (stream_size - k) (drop k s) (omega (arith, head.few_gates)),
     )

@@ -8,6 +8,8 @@ use mathlib.Core.Option
 use mathlib.Core.Option.{Option, none, some}
 use mathlib.Core.List.{List, ◌∷◌, ◌++◌, map}
 use lib.ListN.{take}
+use Rattle.std.specs.Prelude.{Result, Ok, Err}
+use Rattle.comparison_types.specs.declared.Refusal.{Refusal}
 use native.Mathlib.Omega.{arith}
 use Rattle.record_format.specs.Gate.{Gate}
 use Rattle.record_format.specs.Row.{Fault, Row, told, first}
@@ -15,12 +17,12 @@ use Rattle.record_format.specs.Reading.{Reading, qubits, gates, record_rows, acc
 use Rattle.record_format.proofs.Rows.{first_none, first_some, first_told, AllFaults, first_is}
 use Rattle.record_format.proofs.Theorems.{passed}
 use Rattle.record_format.specs.Pair.{PairFault, in_first, in_second, of_pair, pair_row}
-use Rattle.comparison_types.specs.Call.{pair_rows, pair_fault}
+use Rattle.comparison_types.specs.Call.{fault_of, pair_rows, pair_fault}
 use Rattle.line_bytes.specs.Line.{refused_line}
 use Rattle.pair_bytes.specs.Pair.{follow, first_of, second_of}
 use Rattle.pair_bytes.specs.Table.{program_table, unless_refused}
 use Rattle.pair_bytes.specs.Limits.{input_size, stream_size, ReadFarEnough}
-use Rattle.pair_bytes.specs.Inner.{were_read, with_twelve}
+use Rattle.pair_bytes.specs.Inner.{were_read, with_twelve, answer_line}
 use Rattle.pair_bytes.proofs.Cutting.{Tells, tells_itself, tells_cut, read_first, stream_cut}
 
 -- the first row that holds, by what reading the two lists finds and by whether bytes follow
@@ -71,6 +73,19 @@ twelve_in_place s t below all = by_readings s t below ∙ go (follow s t) (read 
     go b (refused f) q = unfold pair_fault in refl
     go b (accepted n gs) (refused f) = unfold pair_fault in refl
     go b (accepted n gs) (accepted m hs) = unfold pair_fault in twelve_above b (pair_rows n m gs hs ++ below) (refl, (refl, all))
+
+-- an answer is the fault that the checks on a pair find, if any, else an outcome with this line
+abbrev pub AnswerIs : {O : Type 0} → (O → List ℕ) → Option PairFault → List ℕ → Result O Refusal → Type 0
+AnswerIs line_of fault line (Ok outcome) = (fault ≡ none) × (line_of outcome ≡ line)
+AnswerIs line_of fault line (Err refusal) = fault ≡ some (fault_of refusal)
+
+-- the line of an answer, by the fault that the checks on a pair find, if any
+pub line_by_fault :
+    {O : Type 0} (line_of : O → List ℕ) (b : Bool) (fault : Option PairFault) (line : List ℕ) (answer : Result O Refusal)
+    → AnswerIs line_of fault line answer → answer_line line_of b answer ≡ unless_refused (with_twelve b fault) line
+line_by_fault line_of true fault line (Ok outcome) (none-found, same) = rw none-found refl
+line_by_fault line_of false fault line (Ok outcome) (none-found, same) = rw none-found same
+line_by_fault line_of b fault line (Err refusal) found = rw found refl
 
 -- a program with these rows below the pair's, and this line for a pair that passes
 module _ (below : ℕ → List Gate → List Gate → List (Row PairFault)) (line : ℕ → List Gate → List Gate → List ℕ) where

@@ -24,3 +24,7 @@ first_of s = take (own_size s) s
 -- and the second, directly after the first, with all that follows
 abbrev pub second_of : List ℕ → List ℕ
 second_of s = drop (own_size s) s
+
+-- what a program prints for a stream, by what it prints for two records: that of its first record and of what stands directly after it
+abbrev pub stream_line : (List ℕ → List ℕ → List ℕ) → List ℕ → List ℕ
+stream_line pair_line s = pair_line (first_of s) (second_of s)

@@ -7,60 +7,29 @@
 // the lent workspaces, numbers or bytes hold afterwards. A row that cannot be read prints `bad row`.
 #![tactic(auto)]
 
-use calls_joins::Way;
-use calls_text::{lines, part, print};
+use calls_text::error::RowError;
+use calls_text::rows;
+use calls_text::rows::Row;
+use std::alloc::Global;
 use std::io;
-use std::io::{BufWriter, Write};
+use std::io::Write;
 
-// The call of a name, on what its row says.
-fn run(
-    out: &mut impl Write,
-    name: &[u8],
-    numbers: &[u8],
-    first: &[u8],
-    second: &[u8],
-) -> io::Result<()> {
-    match name {
-        b"dense" => calls_dense::run(out, numbers, first, second),
-        b"join_in_time" => calls_joins::run(out, Way::InTime, numbers, first, second),
-        b"join_in_space" => calls_joins::run(out, Way::InSpace, numbers, first, second),
-        _ => calls_pairs::run(out, name, numbers, first, second),
+// What the call of a row answers. None of the name makes the row bad.
+fn answer(alloc: Global, out: &mut impl Write, row: Row<'_>) -> Result<(), RowError> {
+    match row.call {
+        "compare" => calls_pairs::compare(alloc, out, row),
+        "pick" => calls_pairs::pick(alloc, out, row),
+        "dense" => calls_dense::compare(alloc, out, row),
+        "join_in_time" => calls_joins::join(alloc, out, row, joining::join_in_time),
+        "join_in_space" => calls_joins::join(alloc, out, row, joining::join_in_space),
+        _ => Err(RowError::Bad),
     }
 }
 
-// One row: its name, and then what the call gives.
-fn row(out: &mut impl Write, buffer: &[u8], size: usize) -> io::Result<()> {
-    let row = lines::begin(out, buffer, size)?;
-    if lines::is_row(row) {
-        run(
-            out,
-            part(row, b';', 1),
-            part(row, b';', 2),
-            part(row, b';', 3),
-            part(row, b';', 4),
-        )?;
-    } else {
-        print::bad(out)?;
-    }
-    print::text(out, b"\n")
-}
-
-// Rows until the input ends. Nothing says that it does, so the turns are counted down, from a number that no run uses up.
+// Stays: a program has a main of its own, which names what it runs.
 fn main(rt: HostRuntime) -> io::Result<()> {
-    let mut input = rt.stdin();
-    let mut out = BufWriter::new(rt.alloc(), io::writer(&rt))?;
-    let mut piece = [0u8; lines::PIECE];
-    let mut line = [0u8; lines::MOST];
-    let mut lines = lines::none();
-    let mut turns = u64::MAX;
-    while turns > 0 {
-        lines = lines::next(lines, &mut input, &mut piece, &mut line)?;
-        if !lines.more {
-            break;
-        }
-        row(&mut out, &line, lines.size)?;
-        turns -= 1;
-    }
-    lines::end(&mut out, lines)?;
-    out.flush()
+    let alloc = rt.alloc();
+    rows::run(alloc, rt.stdin(), rt.stdout(), |out, row| {
+        answer(alloc, out, row)
+    })
 }

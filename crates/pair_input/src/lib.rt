@@ -3,50 +3,143 @@
 // why, after the program's own name.
 #![tactic(auto)]
 
+ghost use Rattle.std.specs.Prelude.{◌≡◌, length, IfSome, MatchResult, Some, None};
+ghost use Rattle.std.specs.Counts.{IsPrefixLen};
+ghost use Rattle.pair_bytes.specs.Limits.{input_size, stream_size};
+
 mod reading;
 
-use reading::{fail, shown};
-pub use reading::{INPUT_SIZE, Input, STREAM_SIZE, read_argument, read_stream};
+use line_bytes::Line;
+use pair_bytes::Comparison;
+use reading::{NAME_SIZE, name_at, read_all, read_file};
 use std::env::FillError;
-use std::rt::Env;
+use std::io::Error;
+use std::rt::{Env, Files};
+use std::{io, str};
+
+// The bytes of a file that are read: those of the longest record, 1,541, and one more, which tells that others follow. That a line needs no
+// more is proved of pair_bytes' `input_size` (`far_enough` in its proofs/Laws.antt).
+const INPUT_SIZE: usize = 1542;
+
+// The bytes of a stream that are read: those of two such records, and one more.
+const STREAM_SIZE: usize = 3083;
+
+// What stands between the words for an error and its number.
+const BEFORE_NUMBER: &str = " (os error ";
 
 // Where a program's two records are, by its arguments.
 #[derive(Clone, Copy)]
-pub enum Source {
+enum Source {
     // in standard input
     Stream,
     // in the two files that the arguments name
     Files,
-    // there is another number of arguments
-    Nowhere,
 }
 
-// A message that says how the program is called.
-fn tell_usage(rt: &impl Eprint, program: &[u8]) {
-    let program = shown(program);
-    let _ = eprintln!(rt; "usage: {program} [FIRST SECOND]");
+// A program: what it runs on, and its name, which stands before its messages.
+#[derive(Drop)]
+pub struct Program<'a, R> {
+    pub rt: &'a R,
+    pub name: &'a [u8],
 }
 
-// Is there an argument at a place? The program's own name is at 0.
-fn has_argument(rt: &impl Env, place: usize) -> bool {
-    !matches!(rt.arg(place, &mut []), Err(FillError::NotPresent))
-}
-
-// Where the two records of a program with this name are; a message where they are nowhere.
-pub fn find_source<R: Env + Eprint>(rt: &R, program: &[u8]) -> Source {
-    if !has_argument(rt, 1) {
-        return Source::Stream;
+impl<'a, R: Env + Files + io::Input + Print + Eprint + Alloc> Program<'a, R> {
+    // Compares the two records that the arguments or standard input give, and prints the line.
+    pub fn run<C: Comparison>(&self) {
+        let line = match self.find_source() {
+            Some(Source::Stream) => self.answer_stream::<C>(),
+            Some(Source::Files) => self.answer_files::<C>(),
+            None => None,
+        };
+        if let Some(line) = line {
+            self.print(&line);
+        }
     }
-    if has_argument(rt, 2) && !has_argument(rt, 3) {
-        return Source::Files;
-    }
-    tell_usage(rt, program);
-    Source::Nowhere
-}
 
-// A whole line on standard output in one write, or a message.
-pub fn print<R: Print + Eprint + Alloc>(rt: &R, program: &[u8], line: &[u8]) {
-    if let Err(why) = rt.write_all(line) {
-        fail(rt, program, "standard output", why);
+    // The line for standard input.
+    fn answer_stream<C: Comparison>(&self) -> Option<Line> {
+        let mut stream = [0u8; STREAM_SIZE];
+        let size = self.read_stream(&mut stream)?;
+        Some(C::write_stream(&stream[..size]))
+    }
+
+    // The line for the two files that the arguments name.
+    fn answer_files<C: Comparison>(&self) -> Option<Line> {
+        let mut first = [0u8; INPUT_SIZE];
+        let mut second = [0u8; INPUT_SIZE];
+        let one = self.read_argument(1, &mut first)?;
+        let other = self.read_argument(2, &mut second)?;
+        Some(C::write_pair(&first[..one], &second[..other]))
+    }
+
+    // The program's name as a message shows it.
+    fn shown(&self) -> &'a str {
+        str::from_utf8(self.name).unwrap_or("?")
+    }
+
+    // Where the two records are; a message where that is nowhere.
+    fn find_source(&self) -> Option<Source> {
+        if !self.has_argument(1) {
+            return Some(Source::Stream);
+        }
+        if self.has_argument(2) && !self.has_argument(3) {
+            return Some(Source::Files);
+        }
+        let program = self.shown();
+        let _ = eprintln!(self.rt; "usage: {program} [FIRST SECOND]");
+        None
+    }
+
+    // Is there an argument at a place? The program's own name is at 0.
+    fn has_argument(&self, place: usize) -> bool {
+        !matches!(self.rt.arg(place, &mut []), Err(FillError::NotPresent))
+    }
+
+    // The bytes of the file that an argument names, as far as it matters; a message where that fails.
+    fn read_argument(&self, place: usize, file: &mut [u8; INPUT_SIZE]) -> Option<usize>
+        ensures count { IfSome result (λ n. IsPrefixLen n file.new) }
+        ensures room { length file.new ≡ input_size }
+    {
+        let mut name = [0u8; NAME_SIZE];
+        let name = self.tell("a file's name", name_at(self.rt, place, &mut name))?;
+        self.tell(name, read_file(self.rt, name, file))
+    }
+
+    // Standard input, as far as it matters; a message where that fails.
+    fn read_stream(&self, stream: &mut [u8; STREAM_SIZE]) -> Option<usize>
+        ensures count { IfSome result (λ n. IsPrefixLen n stream.new) }
+        ensures room { length stream.new ≡ stream_size }
+    {
+        self.tell("standard input", read_all(&mut self.rt.reader(), stream))
+    }
+
+    // A whole line on standard output in one write, or a message.
+    fn print(&self, line: &Line) {
+        self.tell("standard output", self.rt.write_all(line.as_bytes()));
+    }
+
+    // What was done, or a message that says what failed.
+    fn tell<T>(&self, what: &str, done: io::Result<T>) -> Option<T>
+        ensures { MatchResult done (λ value. result ≡ Some value) (λ _. result ≡ None) }
+    {
+        match done {
+            Ok(value) => Some(value),
+            Err(why) => {
+                self.fail(what, why);
+                None
+            }
+        }
+    }
+
+    // A message on standard error: the program, what failed and why, without the error's number.
+    fn fail(&self, what: &str, why: Error) {
+        let program = self.shown();
+        let _ = match why.to_string(self.rt.alloc()) {
+            Ok(text) => {
+                let words = text.split(BEFORE_NUMBER).next().unwrap_or("");
+                eprintln!(self.rt; "{program}: {what}: {words}")
+            }
+            Err(_) => eprintln!(self.rt; "{program}: {what}: {why}"),
+        };
     }
 }

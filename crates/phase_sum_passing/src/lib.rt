@@ -1,45 +1,54 @@
 // The phase-sum layer, passing: one pass over the terms or the wires in lent slices that changes each, unmerged. A variable is replaced by a
 // parity, or taken out. Document 01, "Reducing it".
+// Stays: sets and coefficients, the two lent workspaces, are two parameters everywhere; `Phase` of phase_sum_types says why.
 #![tactic(auto)]
 
 ghost use Rattle.std.specs.Prelude.{◌≡◌, ◌+◌, ◌%◌, ◌<◌, ◌≤◌, cond, map, ◌++◌, length, get_or, set, take, drop};
+ghost use Rattle.phase_sum_meaning.specs.Sets.{◌△◌, single};
 ghost use Rattle.phase_sum_meaning.specs.Parity.{of, replace_in};
 ghost use Rattle.phase_sum_meaning.specs.Phase.{minus, rebuild};
 ghost use Rattle.phase_sum_meaning.specs.Stepping.{out_of};
 ghost use Rattle.phase_sum_meaning.specs.Room.{most_variables};
-ghost use Rattle.phase_sum_types.specs.Workspace.{sets_at, places_in, Whole, Level, held, parity_of, zip_wires, Stored};
+ghost use Rattle.phase_sum_types.specs.Workspace.{set_of, sets_at, places_in, Whole, Level, held, parity_of, Stored};
 ghost use Rattle.phase_sum_types.specs.Inner.{sent_to};
 
-use phase_sum_sets::{exclusive_or, holds, holds_at, load, remove_at, single, store};
+use phase_sum_sets::{holds_at, load, remove_at, store};
 use phase_sum_terms::terms::{add, negate};
-use phase_sum_terms::wires::{set_wire, wire};
-use phase_sum_types::{Parity, Phase};
+use phase_sum_terms::wires::Wires;
+use phase_sum_types::{Parity, Phase, Set};
+
+// A set that holds z with z replaced by a parity's set.
+fn replaced(set: Set, z: u32, by: Set) -> Set
+    requires { z < most_variables }
+    ensures { set_of result ≡ set_of set △ single z △ set_of by }
+{
+    set ^ Set::single(z) ^ by
+}
 
 // A wire with the variable z replaced by the parity p.
+#[tactic(auto, using(crate::proofs::Passing::replaced_in, phase_sum_meaning::proofs::ParityLaws::replace_in_absent))]
 fn replace_in(w: Parity, z: u32, p: Parity) -> Parity
     requires { z < most_variables }
     ensures { parity_of result ≡ replace_in z (parity_of p) (parity_of w) }
 {
-    let set = w.set;
-    if holds(set, z) {
-        return Parity {
-            set: exclusive_or(exclusive_or(set, single(z)), p.set),
+    if w.set.holds(z) {
+        Parity {
+            set: replaced(w.set, z, p.set),
             flipped: w.flipped != p.flipped,
-        };
+        }
+    } else {
+        w
     }
-    w
 }
 
 // The variable z replaced by the parity p in every wire.
-pub fn replace_in_wires(ws: &mut [u64], fs: &mut [bool], z: u32, p: Parity)
-    requires { (z < most_variables) × Level ws.old fs.old }
-    ensures { zip_wires (sets_at ws.new) fs.new ≡ map (replace_in z (parity_of p)) (zip_wires (sets_at ws.old) fs.old) }
+pub fn replace_in_wires(wires: &mut Wires, z: u32, p: Parity)
+    requires { z < most_variables }
+    ensures { wires.new ≡ map (replace_in z (parity_of p)) wires.old }
 {
-    let mut q = 0;
-    while q < fs.len() {
-        let new = replace_in(wire(ws, fs, q), z, p);
-        set_wire(ws, fs, q, new);
-        q += 1;
+    for q in 0..wires.len() {
+        let new = replace_in(wires.get(q), z, p);
+        wires.set(q, new);
     }
 }
 
@@ -47,10 +56,7 @@ pub fn replace_in_wires(ws: &mut [u64], fs: &mut [bool], z: u32, p: Parity)
 fn signed(coeff: u8, flipped: bool) -> u8
     ensures { result ≡ cond flipped (minus coeff) coeff }
 {
-    if flipped {
-        return negate(coeff);
-    }
-    coeff
+    if flipped { negate(coeff) } else { coeff }
 }
 
 // The constant: with a coefficient more where its term's set became complemented.
@@ -58,12 +64,14 @@ fn with_flip(constant: u8, coeff: u8, flipped: bool) -> u8
     ensures { result ≡ cond flipped ((constant + coeff) % 8) constant }
 {
     if flipped {
-        return add(constant, coeff);
+        add(constant, coeff)
+    } else {
+        constant
     }
-    constant
 }
 
 // The variable z replaced by the parity p in the term at a place. Returns the constant, which was given, after that.
+#[tactic(auto, using(crate::proofs::Passing::at_place))]
 fn replace_at(sets: &mut [u64], coeffs: &mut [u8], i: usize, constant: u8, z: u32, p: Parity) -> u8
     requires { (z < most_variables) × Level sets.old coeffs.old × (i < length coeffs.old) }
     ensures constant { result ≡ cond (replace_in z (parity_of p) (of (get_or (sets_at sets.old) i 0))).flipped ((constant + get_or coeffs.old i 0) % 8) constant }
@@ -73,11 +81,12 @@ fn replace_at(sets: &mut [u64], coeffs: &mut [u8], i: usize, constant: u8, z: u3
     if holds_at(sets, i, z) {
         let coeff = coeffs[i];
         let set = load(sets, i);
-        store(sets, i, exclusive_or(exclusive_or(set, single(z)), p.set));
+        store(sets, i, replaced(set, z, p.set));
         coeffs[i] = signed(coeff, p.flipped);
-        return with_flip(constant, coeff, p.flipped);
+        with_flip(constant, coeff, p.flipped)
+    } else {
+        constant
     }
-    constant
 }
 
 // The variable z replaced by the parity p in every term, unmerged. Returns the constant.
@@ -86,12 +95,9 @@ pub fn replace_unmerged(sets: &mut [u64], coeffs: &mut [u8], phase: Phase, z: u3
     ensures constant { result ≡ (rebuild (λ u. replace_in z (parity_of p) (of u)) phase.constant (held phase.count (sets_at sets.old) coeffs.old)).constant }
     ensures terms { Stored phase.count (map (sent_to (λ u. replace_in z (parity_of p) (of u))) (held phase.count (sets_at sets.old) coeffs.old)) phase.count (sets_at sets.old) coeffs.old (sets_at sets.new) coeffs.new }
 {
-    let count = phase.count;
     let mut constant = add(phase.constant, 0);
-    let mut i = 0;
-    while i < count {
+    for i in 0..phase.count {
         constant = replace_at(sets, coeffs, i, constant, z, p);
-        i += 1;
     }
     constant
 }
@@ -101,9 +107,7 @@ pub fn take_out_unmerged(sets: &mut [u64], count: usize, y: u32)
     requires { (y < most_variables) × (count ≤ places_in sets.old) × Whole sets.old }
     ensures { sets_at sets.new ≡ map (out_of y) (take count (sets_at sets.old)) ++ drop count (sets_at sets.old) }
 {
-    let mut i = 0;
-    while i < count {
+    for i in 0..count {
         remove_at(sets, i, y);
-        i += 1;
     }
 }

@@ -1,21 +1,15 @@
--- Zeros stored from one place up to another: in all places, and in the words of whole sets.
+-- Zeros stored from one place up to another, in the words of whole sets.
 -- Assumes nothing.
 use mathlib.Core.Path.{◌≡◌}
-use mathlib.Core.List.{List, [], ◌++◌, append-nil}
+use mathlib.Core.List.{List, ◌++◌}
 use Prim.Native.Nat.{ℕ, ◌-◌, ◌*◌, ◌/◌, ◌<◌, ◌≤◌}
-use native.Mathlib.Nat.{sub-zero, mul-sub, mul-div-le, mul-le-mul_left, le_refl}
+use native.Mathlib.Nat.{mul-sub, mul-div-le, mul-le-mul_left}
 use native.Mathlib.Omega.{arith}
-use lib.ListN.{length, take, drop, replicate, length-append, length-replicate, drop_of_length-le}
+use lib.ListN.{length, take, drop, replicate, length-append, length-replicate}
 use lib.Seq.{length-take-le}
 use Rattle.phase_sum_words.specs.Words.{sets_in}
 use Rattle.phase_sum_words.proofs.Any.{any_width}
 use Rattle.phase_sum_types.proofs.Places.{filled}
-
--- zeros in every place
-pub all_filled : (xs : List ℕ) → filled 0 (length xs) xs ≡ replicate (length xs) 0
-all_filled xs =
-    let none : drop (length xs) xs ≡ [] = drop_of_length-le xs {i = length xs} (le_refl _) in
-    rw (sub-zero, none, append-nil)
 
 -- zeros in the words of the sets from place a up to b are empty sets there
 pub sets_filled :

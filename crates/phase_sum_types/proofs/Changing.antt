@@ -6,16 +6,16 @@ use native.Mathlib.Omega.{arith}
 use mathlib.Core.Bool.{Bool, true, false, cond}
 use mathlib.Core.List.{List, [], ◌∷◌}
 use lib.Dec.{eqb}
-use lib.ListN.{length}
+use lib.ListN.{length, length-map}
 use borrow.Author.Tests.{eq-eqb}
 use Rattle.amplitude.specs.Bits.{bit}
 use Rattle.phase_sum_meaning.specs.Sets.{without, Among, here, there}
-use Rattle.phase_sum_meaning.specs.Parity.{Parity}
+use Rattle.phase_sum_meaning.specs.Parity.{Parity, replace_in}
 use Rattle.phase_sum_meaning.specs.Building.{PathSum}
 use Rattle.phase_sum_meaning.specs.Stepping.{replace, take_out, turned}
 use Rattle.phase_sum_meaning.specs.Room.{most_variables}
 use Rattle.phase_sum_meaning.proofs.Roominess.{terms_replace, terms_take_out, terms_turned}
-use Rattle.phase_sum_types.specs.Workspace.{set_of, Phased, Lent, wires_in, members, sum_of, Stands, Became, Sized}
+use Rattle.phase_sum_types.specs.Workspace.{set_of, Phased, Lent, members, sum_of, Stands, Became, Sized}
 use Rattle.phase_sum_types.specs.declared.Sum.{Sum}
 use Rattle.phase_sum_types.proofs.Storing.{length-held, stored-held}
 use Rattle.phase_sum_types.proofs.Members.{members_hold, some_length}
@@ -25,7 +25,7 @@ use Rattle.phase_sum_types.proofs.Running.{AsLong}
 pub became :
     (t : PathSum) {m : ℕ} (r : Sum) (l l' : Lent) →
     Phased t.phase m r.phase l.sets l.coeffs l'.sets l'.coeffs →
-    wires_in l' ≡ t.wires →
+    l'.wires ≡ t.wires →
     members (set_of r.live) ≡ t.live →
     Became t m r l l'
 became t r l l' p wires live =
@@ -33,7 +33,7 @@ became t r l l' p wires live =
 
 -- a sum with room can be changed
 pub sized_stands : {s : Sum} {l : Lent} → Sized s l → Stands s l
-sized_stands z = record { flips = z.flips; sets = omega (arith, z.sets); coeffs = omega (arith, z.coeffs) }
+sized_stands z = record { sets = omega (arith, z.sets); coeffs = omega (arith, z.coeffs) }
 
 -- the terms of a sum and its variables left, counted together
 abbrev pub room_in : PathSum → ℕ
@@ -77,6 +77,21 @@ pub room-turned : (k l y : ℕ) (s : PathSum) → Among y s.live → room_in (tu
 unfolding take_out turned
 room-turned k l y s a = omega (arith, terms_turned k l (take_out y s), terms_take_out y s, without_less a)
 
+-- as many wires stay where a variable is replaced
+pub wires-replace : (z : ℕ) (p : Parity) (s : PathSum) → length (replace z p s).wires ≡ length s.wires
+unfolding replace
+wires-replace z p s = length-map s.wires (replace_in z p)
+
+-- and where one is taken out
+pub wires-take_out : (y : ℕ) (s : PathSum) → length (take_out y s).wires ≡ length s.wires
+unfolding take_out
+wires-take_out y s = refl
+
+-- and in a turn
+pub wires-turned : (k l y : ℕ) (s : PathSum) → length (turned k l (take_out y s)).wires ≡ length s.wires
+unfolding take_out turned
+wires-turned k l y s = refl
+
 -- where a variable is left, the terms leave a place
 pub place_left :
     (s : Sum) (y : ℕ) {l : Lent} →
@@ -103,7 +118,6 @@ still_sized s t r l l' z room b long =
     let left = ap (λ (u : PathSum). length u.live) b.sum in
     record {
       few = omega (arith, z.few, long.wires);
-      flips = omega (arith, z.flips, long.wires, long.flips);
       sets = omega (arith, z.sets, long.sets, b.terms.counted, left, counted, room);
       coeffs = omega (arith, z.coeffs, long.coeffs, b.terms.counted, left, counted, room);
     }

@@ -2,7 +2,7 @@
 -- added up term by term.
 -- Assumes nothing.
 use mathlib.Core.Path.{◌≡◌, sym}
-use Prim.Native.Nat.{ℕ, suc, ◌+◌, ◌-◌, ◌*◌, ◌%◌, ◌≤◌, ◌<◌}
+use Prim.Native.Nat.{ℕ, suc, ◌+◌, ◌-◌, ◌*◌, ◌≤◌, ◌<◌}
 use native.Mathlib.Nat.{sub_self}
 use native.Mathlib.Numerals.{add-one}
 use native.Mathlib.Omega.{arith}
@@ -84,8 +84,3 @@ pub phase_so_far_more :
     phase_so_far (i + 1) k ss cs x ≡ phase_so_far i k ss cs x + cond (parity (get_or ss i 0) x) (get_or cs i 0) 0
 unfolding phase_at
 phase_so_far_more i k ss cs x l h = rw (held_more i ss cs l h, sum_at_next, share_digit) (omega arith)
-
--- its constant counts mod 8
-pub phase_so_far_constant : (i k : ℕ) (ss cs : List ℕ) (x : ℕ) → phase_so_far i ((k + 0) % 8) ss cs x % 8 ≡ phase_so_far i k ss cs x % 8
-unfolding phase_at
-phase_so_far_constant i k ss cs x = omega arith

@@ -2,25 +2,22 @@
 -- run while a loop or a row of calls goes over a list.
 -- Assumes nothing.
 use mathlib.Core.Path.{◌≡◌, refl, sym, ap, ◌∙◌}
-use Prim.Native.Nat.{ℕ, zero, suc, ◌+◌, ◌-◌, ◌%◌, ◌≤◌, ◌<◌}
+use Prim.Native.Nat.{ℕ, ◌+◌, ◌-◌, ◌%◌, ◌≤◌}
 use native.Mathlib.Omega.{arith}
-use mathlib.Core.Bool.{Bool, true, false, cond, false≢true}
 use mathlib.Core.List.{List, [], ◌∷◌, ◌++◌, append-nil}
-use lib.ListN.{length, get_or, set, length-append, length-map}
-use lib.Dec.{leb, ltb}
-use borrow.Author.Tests.{leb-true, leb-false, lt-leb, ltb-true, ltb-false}
-use Rattle.record_format.specs.Gate.{Gate, TwoQubit, one, two, X, Y, Z, S, S†, T, T†, H, CX, CZ, SWAP, Within, AllWithin, one_qubit_kinds, two_qubit_kinds, raw, gate_of, inverse_number, inverse_gate, inverse_kind, inverse_list}
+use lib.ListN.{length, get_or, set, length-set, length-append, length-map}
+use Rattle.record_format.specs.Gate.{Gate, one, two, X, Y, Z, S, S†, T, T†, H, CX, CZ, SWAP, AllWithin, inverse_list}
 use Rattle.record_format.specs.Reading.{gates_in}
-use Rattle.record_format.proofs.GateLaws.{inverse-raw, within_append, within_inverse}
+use Rattle.record_format.proofs.GateLaws.{within_append, within_inverse}
 use Rattle.amplitude.specs.Circuit.{tally, is_h, h_gates}
 use Rattle.amplitude.proofs.Linear.{tally-append, h_gates-inverse}
 use Rattle.phase_sum_meaning.specs.Sets.{single, from}
-use Rattle.phase_sum_meaning.specs.Parity.{Parity, of, ◌⊕◌, complement}
+use Rattle.phase_sum_meaning.specs.Parity.{Parity, of, complement}
 use Rattle.phase_sum_meaning.specs.Phase.{Term, Phase as Polynomial, add_constant}
-use Rattle.phase_sum_meaning.specs.Building.{PathSum, initial, wire, set_wire, with_phase, product_by, hadamard_by, gate_by}
+use Rattle.phase_sum_meaning.specs.Building.{PathSum, input, initial, build, wire, set_wire, with_phase, product_by, hadamard_by, gate_by}
 use Rattle.phase_sum_meaning.specs.Room.{room_for, room, most_variables}
-use Rattle.phase_sum_types.specs.Workspace.{set_of, held, sets_of, coeffs_of, over, Stored, merged, Phased, alone, parity_of, zip_wires, Lent, slices, wires_in, members}
-use Rattle.phase_sum_types.specs.Unmerged.{put_behind, append_gate, append_gates, sum_in, Runnable, Leaves, moves_only, Moves, Builds, Buildable}
+use Rattle.phase_sum_types.specs.Workspace.{set_of, held, sets_of, coeffs_of, over, Stored, merged, Phased, alone, parity_of, Lent, slices, members}
+use Rattle.phase_sum_types.specs.Unmerged.{miter_in, put_behind, append_gate, append_gates, sum_in, Runnable, Leaves, Moves, Builds, Buildable}
 use Rattle.phase_sum_types.specs.Inner.{append_phase, on_h}
 use Rattle.phase_sum_types.specs.declared.Set.{Set}
 use Rattle.phase_sum_types.specs.declared.Phase.{Phase}
@@ -33,10 +30,9 @@ use Rattle.phase_sum_meaning.proofs.Roominess.{tally-inverse-room}
 use Rattle.phase_sum_meaning.proofs.VariableLaws.{from-length}
 use Rattle.phase_sum_meaning.proofs.Wellformed.{live_gates}
 
--- the four slices are as long as they were
+-- as many wires as there were, and as long slices
 pub record AsLong (l l' : Lent) : Type 0 where
   pub wires : length l'.wires ≡ length l.wires
-  pub flips : length l'.flips ≡ length l.flips
   pub sets : length l'.sets ≡ length l.sets
   pub coeffs : length l'.coeffs ≡ length l.coeffs
 
@@ -45,7 +41,6 @@ pub long_after : {l l₁ l₂ : Lent} → AsLong l l₁ → AsLong l₁ l₂ →
 long_after a b =
     record {
       wires = b.wires ∙ a.wires;
-      flips = b.flips ∙ a.flips;
       sets = b.sets ∙ a.sets;
       coeffs = b.coeffs ∙ a.coeffs;
     }
@@ -65,7 +60,7 @@ pub diagonal_leaves :
     parity_of w ≡ wire q (sum_in s l) →
     Put (put_behind c (parity_of w) (sum_in s l).phase) s p l ss' cs' →
     Leaves (append_phase c q (sum_in s l)) s.phase.count (record { next = s.next; phase = p }) l
-    (slices l.wires l.flips ss' cs')
+    (slices l.wires ss' cs')
 unfolding with_phase
 diagonal_leaves s c q l w p started e put =
     let φ = rw e at put in
@@ -78,17 +73,17 @@ diagonal_leaves s c q l w p started e put =
 
 -- what Y leaves
 pub y_leaves :
-    (s : Run) (q : ℕ) (l : Lent) (fs' : List Bool) (w : ParityWord) (p : Phase) (k : ℕ) {ss' cs' : List ℕ} →
+    (s : Run) (q : ℕ) (l : Lent) (wires' : List Parity) (w : ParityWord) (p : Phase) (k : ℕ) {ss' cs' : List ℕ} →
     length l.wires ≤ s.next →
     parity_of w ≡ wire q (sum_in s l) →
     Put (put_behind 4 (parity_of w) (sum_in s l).phase) s p l ss' cs' →
-    zip_wires l.wires fs' ≡ set (wires_in l) q (complement (wire q (sum_in s l))) →
+    wires' ≡ set l.wires q (complement (wire q (sum_in s l))) →
     k ≡ (p.constant + 2) % 8 →
     Leaves (append_gate (length l.wires) (one Y q) (sum_in s l)) s.phase.count
     (record { next = s.next; phase = record { constant = k; count = p.count } }) l
-    (slices l.wires fs' ss' cs')
+    (slices wires' ss' cs')
 unfolding gate_by set_wire with_phase add_constant
-y_leaves s q l fs' w p k started e put wires turned =
+y_leaves s q l wires' w p k started e put wires turned =
     let φ = rw e at put in
     record {
       next = next_behind (length l.wires) s.next started;
@@ -99,17 +94,17 @@ y_leaves s q l fs' w p k started e put wires turned =
 
 -- what H leaves
 pub hadamard_leaves :
-    (s : Run) (q : ℕ) (l : Lent) (ws' : List ℕ) (fs' : List Bool) (u v : ParityWord) (p : Phase) (next : ℕ) {ss' cs' : List ℕ} →
+    (s : Run) (q : ℕ) (l : Lent) (wires' : List Parity) (u v : ParityWord) (p : Phase) (next : ℕ) {ss' cs' : List ℕ} →
     length l.wires ≤ s.next →
     next ≡ s.next + 1 →
     parity_of u ≡ wire q (sum_in s l) →
     parity_of v ≡ of (single s.next) →
     Put (product_by put_behind (parity_of u) (parity_of v) (alone (sum_in s l).phase)).phase s p l ss' cs' →
-    zip_wires ws' fs' ≡ set (wires_in l) q (parity_of v) →
+    wires' ≡ set l.wires q (parity_of v) →
     Leaves (append_gate (length l.wires) (on_h q) (sum_in s l)) s.phase.count (record { next = next; phase = p }) l
-    (slices ws' fs' ss' cs')
+    (slices wires' ss' cs')
 unfolding gate_by hadamard_by with_phase
-hadamard_leaves s q l ws' fs' u v p next started more e f put wires =
+hadamard_leaves s q l wires' u v p next started more e f put wires =
     let n = length l.wires in
     let new = next_behind n s.next started in
     let f' : parity_of v ≡ of (single (n + length (from n (s.next - n)))) = f ∙ ap (λ (m : ℕ). of (single m)) new in
@@ -129,7 +124,7 @@ pub controlled_z_leaves :
     parity_of v ≡ wire b (sum_in s l) →
     Put (product_by put_behind (parity_of u) (parity_of v) (alone (sum_in s l).phase)).phase s p l ss' cs' →
     Leaves (append_gate (length l.wires) (two CZ a b) (sum_in s l)) s.phase.count (record { next = s.next; phase = p }) l
-    (slices l.wires l.flips ss' cs')
+    (slices l.wires ss' cs')
 unfolding gate_by with_phase
 controlled_z_leaves s a b l u v p started e f put =
     let φ = rw (e, f) at put in
@@ -139,105 +134,6 @@ controlled_z_leaves s a b l u v p started e f put =
       wires = refl;
       terms = φ.terms;
     }
-
--- three bytes of kind 1
-pub kind_y : (k a b : ℕ) → k ≡ 1 → gate_of (raw k a b) ≡ one Y a
-unfolding gate_of
-kind_y k a b e = rw e
-
--- three bytes of kind 7
-pub kind_h : (k a b : ℕ) → k ≡ 7 → gate_of (raw k a b) ≡ on_h a
-unfolding gate_of
-kind_h k a b e = rw e
-
--- three bytes of kind 9
-pub kind_cz : (k a b : ℕ) → k ≡ 9 → gate_of (raw k a b) ≡ two CZ a b
-unfolding gate_of
-kind_cz k a b e = rw e
-
--- the first qubit of three bytes is within n, and so is the second of a gate on two
-pub bytes_within : (n k a b : ℕ) → Within n (gate_of (raw k a b)) → (a < n) × (7 < k → b < n)
-unfolding gate_of
-bytes_within n k a b = go (leb k 7) refl
-  where
-    go :
-        (t : Bool) → leb k 7 ≡ t →
-        Within n (cond t (one (get_or one_qubit_kinds k H) a) (two (get_or two_qubit_kinds (k - 8) SWAP) a b)) →
-        (a < n) × (7 < k → b < n)
-    go true e l = (l, λ m. absurd (omega (arith, leb-true k 7 e)))
-    go false e l = (l.0, λ m. l.1)
-
--- the kinds from Z to the inverse of T put one phase on their wire: they take one place
-pub diagonal_room : (k a b : ℕ) → 1 < k → k < 7 → room_for (gate_of (raw k a b)) ≡ 1
-unfolding gate_of room_for
-diagonal_room zero a b l h = absurd (omega arith)
-diagonal_room (suc zero) a b l h = absurd (omega arith)
-diagonal_room (suc (suc zero)) a b l h = refl
-diagonal_room (suc (suc (suc zero))) a b l h = refl
-diagonal_room (suc (suc (suc (suc zero)))) a b l h = refl
-diagonal_room (suc (suc (suc (suc (suc zero))))) a b l h = refl
-diagonal_room (suc (suc (suc (suc (suc (suc zero)))))) a b l h = refl
-diagonal_room (suc (suc (suc (suc (suc (suc (suc k))))))) a b l h = absurd (omega arith)
-
--- a two-qubit kind from 10 on is SWAP
-pub kind_swap : (k a b : ℕ) → 9 < k → gate_of (raw k a b) ≡ two SWAP a b
-unfolding gate_of
-kind_swap k a b l = rw (lt-leb k 7 (omega arith)) (ap (λ (v : TwoQubit). two v a b) (go (k - 8) (omega arith)))
-  where
-    go : (m : ℕ) → 1 < m → get_or two_qubit_kinds m SWAP ≡ SWAP
-    go zero h = absurd (omega arith)
-    go (suc zero) h = absurd (omega arith)
-    go (suc (suc zero)) h = refl
-    go (suc (suc (suc m))) h = refl
-
--- every kind but X, CX and SWAP takes a place
-pub kind_stays : (k a b : ℕ) → (k ≡ 0 → ⊥) → (k ≡ 8 → ⊥) → k ≤ 9 → false ≡ moves_only (gate_of (raw k a b))
-unfolding gate_of room_for
-kind_stays zero a b x cx l = absurd (x refl)
-kind_stays (suc zero) a b x cx l = refl
-kind_stays (suc (suc zero)) a b x cx l = refl
-kind_stays (suc (suc (suc zero))) a b x cx l = refl
-kind_stays (suc (suc (suc (suc zero)))) a b x cx l = refl
-kind_stays (suc (suc (suc (suc (suc zero))))) a b x cx l = refl
-kind_stays (suc (suc (suc (suc (suc (suc zero)))))) a b x cx l = refl
-kind_stays (suc (suc (suc (suc (suc (suc (suc zero))))))) a b x cx l = refl
-kind_stays (suc (suc (suc (suc (suc (suc (suc (suc zero)))))))) a b x cx l = absurd (cx refl)
-kind_stays (suc (suc (suc (suc (suc (suc (suc (suc (suc zero))))))))) a b x cx l = refl
-kind_stays (suc (suc (suc (suc (suc (suc (suc (suc (suc (suc k)))))))))) a b x cx l = absurd (omega arith)
-
--- so one that takes none and is neither X nor CX is above CZ
-pub kind_moves : (k a b : ℕ) → moves_only (gate_of (raw k a b)) ≡ true → (k ≡ 0 → ⊥) → (k ≡ 8 → ⊥) → 9 < k
-kind_moves k a b e x cx = go (leb k 9) refl
-  where
-    go : (t : Bool) → leb k 9 ≡ t → 9 < k
-    go true h = absurd (false≢true (kind_stays k a b x cx (leb-true k 9 h) ∙ e))
-    go false h = leb-false k 9 h
-
--- so such a kind takes none exactly where it is above CZ
-pub above_cz : (k a b : ℕ) → (k ≡ 0 → ⊥) → (k ≡ 8 → ⊥) → ltb 9 k ≡ moves_only (gate_of (raw k a b))
-unfolding room_for
-above_cz k a b x cx = go (ltb 9 k) refl
-  where
-    go : (t : Bool) → ltb 9 k ≡ t → t ≡ moves_only (gate_of (raw k a b))
-    go true h = rw (kind_swap k a b (ltb-true 9 k h))
-    go false h = kind_stays k a b x cx (ltb-false 9 k h)
-
--- and one that takes some and is not Y, H or CZ puts one phase on its wire
-pub kind_diagonal :
-    (k a b : ℕ) → moves_only (gate_of (raw k a b)) ≡ false → (k ≡ 1 → ⊥) → (k ≡ 7 → ⊥) → (k ≡ 9 → ⊥) → (1 < k) × (k < 7)
-unfolding gate_of room_for
-kind_diagonal zero a b e y h cz = absurd (false≢true (sym e))
-kind_diagonal (suc zero) a b e y h cz = absurd (y refl)
-kind_diagonal (suc (suc zero)) a b e y h cz = (omega arith, omega arith)
-kind_diagonal (suc (suc (suc zero))) a b e y h cz = (omega arith, omega arith)
-kind_diagonal (suc (suc (suc (suc zero)))) a b e y h cz = (omega arith, omega arith)
-kind_diagonal (suc (suc (suc (suc (suc zero))))) a b e y h cz = (omega arith, omega arith)
-kind_diagonal (suc (suc (suc (suc (suc (suc zero)))))) a b e y h cz = (omega arith, omega arith)
-kind_diagonal (suc (suc (suc (suc (suc (suc (suc zero))))))) a b e y h cz = absurd (h refl)
-kind_diagonal (suc (suc (suc (suc (suc (suc (suc (suc zero)))))))) a b e y h cz = absurd (false≢true (sym e))
-kind_diagonal (suc (suc (suc (suc (suc (suc (suc (suc (suc zero))))))))) a b e y h cz = absurd (cz refl)
-kind_diagonal (suc (suc (suc (suc (suc (suc (suc (suc (suc (suc k)))))))))) a b e y h cz =
-    absurd (false≢true (sym (rw (kind_swap (suc (suc (suc (suc (suc (suc (suc (suc (suc (suc k)))))))))) a b (omega arith)) at e)))
 
 -- X moves wires
 pub x_moves : (q : ℕ) (ws : List Parity) → Moves (one X q) ws (set ws q (complement (get_or ws q (of 0))))
@@ -251,23 +147,13 @@ unfolding gate_by set_wire
 x_moved q ws ws' moves =
     sym (ap (λ (t : PathSum). t.wires) (moves 0 (record { phase = record { constant = 0; terms = [] }; wires = ws; live = [] }) refl))
 
--- so does CX
-pub cx_moves : (a b : ℕ) (ws : List Parity) → Moves (two CX a b) ws (set ws b (get_or ws b (of 0) ⊕ get_or ws a (of 0)))
-unfolding gate_by set_wire
-cx_moves a b ws n s e = rw (← e)
-
--- so does SWAP
-pub swap_moves : (a b : ℕ) (ws : List Parity) → Moves (two SWAP a b) ws (set (set ws a (get_or ws b (of 0))) b (get_or ws a (of 0)))
-unfolding gate_by set_wire
-swap_moves a b ws n s e = rw (← e)
-
 -- what a gate that only moves wires leaves
 pub moves_leaves :
-    (s : Run) (g : Gate) (l : Lent) (ws' : List ℕ) (fs' : List Bool) →
+    (s : Run) (g : Gate) (l : Lent) (wires' : List Parity) →
     Runnable s (g ∷ []) l →
-    Moves g (wires_in l) (zip_wires ws' fs') →
-    Leaves (append_gate (length l.wires) g (sum_in s l)) s.phase.count s l (slices ws' fs' l.sets l.coeffs)
-moves_leaves s g l ws' fs' fits moves =
+    Moves g l.wires wires' →
+    Leaves (append_gate (length l.wires) g (sum_in s l)) s.phase.count s l (slices wires' l.sets l.coeffs)
+moves_leaves s g l wires' fits moves =
     rw (moves (length l.wires) (sum_in s l) refl)
     (record {
       next = next_behind (length l.wires) s.next fits.started;
@@ -275,42 +161,6 @@ moves_leaves s g l ws' fs' fits moves =
       wires = refl;
       terms = stored_same s.phase.count l.sets l.coeffs (omega (arith, fits.sets)) (omega (arith, fits.coeffs));
     })
-
--- a gate that only moves wires is its own inverse
-moves_inverse : (g : Gate) → moves_only g ≡ true → inverse_gate g ≡ g
-unfolding room_for inverse_gate inverse_kind
-moves_inverse (one X q) e = refl
-moves_inverse (one Y q) e = absurd (false≢true e)
-moves_inverse (one Z q) e = absurd (false≢true e)
-moves_inverse (one S q) e = absurd (false≢true e)
-moves_inverse (one S† q) e = absurd (false≢true e)
-moves_inverse (one T q) e = absurd (false≢true e)
-moves_inverse (one T† q) e = absurd (false≢true e)
-moves_inverse (one H q) e = absurd (false≢true e)
-moves_inverse (two CX a b) e = refl
-moves_inverse (two CZ a b) e = absurd (false≢true e)
-moves_inverse (two SWAP a b) e = refl
-
--- by its bytes
-pub inverse_moves : (k a b : ℕ) → moves_only (gate_of (raw k a b)) ≡ true → gate_of (raw (inverse_number k) a b) ≡ gate_of (raw k a b)
-inverse_moves k a b e = inverse-raw k a b ∙ moves_inverse (gate_of (raw k a b)) e
-
--- and inverting makes no other gate one
-pub inverse_stays :
-    (k a b : ℕ) → moves_only (gate_of (raw k a b)) ≡ false → moves_only (gate_of (raw (inverse_number k) a b)) ≡ false
-unfolding room_for inverse_gate inverse_kind
-inverse_stays k a b e = rw (inverse-raw k a b) (go (gate_of (raw k a b)) e)
-  where
-    go : (g : Gate) → moves_only g ≡ false → moves_only (inverse_gate g) ≡ false
-    go (one X q) h = h
-    go (one Y q) h = h
-    go (one Z q) h = h
-    go (one S q) h = refl
-    go (one S† q) h = refl
-    go (one T q) h = refl
-    go (one T† q) h = refl
-    go (one H q) h = h
-    go (two v a b) h = h
 
 -- more gates run on what gates leave
 append_gates_lem : (n : ℕ) (gs hs : List Gate) (s : PathSum) → append_gates n (gs ++ hs) s ≡ append_gates n hs (append_gates n gs s)
@@ -335,6 +185,52 @@ terms_gate n (one H q) s = simp length-append (omega arith, omega arith)
 terms_gate n (two CX a b) s = (omega arith, omega arith)
 terms_gate n (two CZ a b) s = simp length-append (omega arith, omega arith)
 terms_gate n (two SWAP a b) s = (omega arith, omega arith)
+
+-- a gate leaves as many wires as there were
+wires_gate : (n : ℕ) (g : Gate) (s : PathSum) → length (append_gate n g s).wires ≡ length s.wires
+unfolding gate_by set_wire with_phase hadamard_by
+wires_gate n (one X q) s = length-set _ _ _
+wires_gate n (one Y q) s = length-set _ _ _
+wires_gate n (one Z q) s = refl
+wires_gate n (one S q) s = refl
+wires_gate n (one S† q) s = refl
+wires_gate n (one T q) s = refl
+wires_gate n (one T† q) s = refl
+wires_gate n (one H q) s = length-set _ _ _
+wires_gate n (two CX a b) s = length-set _ _ _
+wires_gate n (two CZ a b) s = refl
+wires_gate n (two SWAP a b) s = length-set _ _ _ ∙ length-set _ _ _
+
+-- so do gates
+wires_gates : (n : ℕ) (gs : List Gate) (s : PathSum) → length (append_gates n gs s).wires ≡ length s.wires
+unfolding append_gates
+wires_gates n [] s = refl
+wires_gates n (g ∷ gs) s = wires_gates n gs (append_gate n g s) ∙ wires_gate n g s
+
+-- where a gate has run, there are as many wires as before
+pub gate_wires :
+    (n : ℕ) (g : Gate) (s : Run) {r : Run} {m : ℕ} {l l' : Lent} →
+    Leaves (append_gate n g (sum_in s l)) m r l l' →
+    length l'.wires ≡ length l.wires
+gate_wires n g s {l = l} leaves = ap length leaves.wires ∙ wires_gate n g (sum_in s l)
+
+-- and where gates have run
+pub leaves_wires :
+    (n : ℕ) (gs : List Gate) (s : Run) {r : Run} {m : ℕ} {l l' : Lent} →
+    Leaves (append_gates n gs (sum_in s l)) m r l l' →
+    length l'.wires ≡ length l.wires
+leaves_wires n gs s {l = l} leaves = ap length leaves.wires ∙ wires_gates n gs (sum_in s l)
+
+-- before any gate there is a wire a qubit
+pub initial_wires : (n : ℕ) → length (initial 0 n).wires ≡ n
+unfolding initial
+initial_wires n = length-map (from 0 n) (input 0) ∙ from-length 0 n
+
+-- so there is in a built sum
+pub built_wires : (n : ℕ) (gs : List Gate) → length (build 0 n gs).wires ≡ n
+unfolding with_phase
+built_wires n gs =
+    ap (λ (t : PathSum). length t.wires) (sym (merged-build 0 n gs)) ∙ wires_gates n gs (initial 0 n) ∙ initial_wires n
 
 -- gates within n are so in two parts
 within_parts : (n : ℕ) (gs hs : List Gate) → AllWithin n (gs ++ hs) → AllWithin n gs × AllWithin n hs
@@ -389,7 +285,7 @@ none_run s gs l fits =
       makes = refl;
       terms = stored_same s.phase.count l.sets l.coeffs (omega (arith, fits.sets)) (omega (arith, fits.coeffs));
       fits = fits;
-      long = record { wires = refl; flips = refl; sets = refl; coeffs = refl };
+      long = record { wires = refl; sets = refl; coeffs = refl };
     }
 
 -- after the last gate
@@ -425,7 +321,6 @@ rest_fits s gs hs l {r} {l'} fits leaves long =
     in
     let rooms = tally-append room_for gs hs in
     record {
-      flips = omega (arith, long.flips, long.wires, fits.flips);
       few = rw long.wires fits.few;
       started = omega (arith, long.wires, fits.started);
       within = rw long.wires (within_parts n gs hs fits.within).1;
@@ -435,7 +330,7 @@ rest_fits s gs hs l {r} {l'} fits leaves long =
     }
 
 -- after some of the gates
-some_run :
+pub some_run :
     {u : PathSum} (gs hs : List Gate) {m : ℕ} (s : Run) {r : Run} {l l₁ l₂ : Lent} →
     ToRun u (gs ++ hs) m s l l₁ →
     Leaves (append_gates (length l₁.wires) gs (sum_in s l₁)) s.phase.count r l₁ l₂ →
@@ -475,7 +370,6 @@ first_fit gs hs {l' = l'} run =
     let fits = run.fits in
     let rooms = tally-append room_for gs hs in
     record {
-      flips = fits.flips;
       few = fits.few;
       started = fits.started;
       within = (within_parts (length l'.wires) gs hs fits.within).0;
@@ -484,60 +378,40 @@ first_fit gs hs {l' = l'} run =
       coeffs = omega (arith, fits.coeffs);
     }
 
--- the gates of a pair in the order in which they run: the first list, then the second inverted
-abbrev pair_gates : List ℕ → List ℕ → List Gate
-pair_gates first second = gates_in first ++ inverse_list (gates_in second)
-
--- a pair's gates on the sum of no gates, which a call left that was lent l
-module _
-    (first second : List ℕ) {l l₁ : Lent} (fits : Buildable (length l.wires) first second l.sets l.coeffs)
-    (s : Run) (starts : Leaves (initial 0 (length l.wires)) 0 s l l₁) (long : AsLong l l₁)
-    (flips : length l.flips ≡ length l.wires)
-  where
-    -- before any gate has run
-    start-run :
-        ToRun (append_gates (length l.wires) (pair_gates first second) (initial 0 (length l.wires))) (pair_gates first second) 0 s
-        l l₁
-    unfolding initial from
-    start-run =
-        let n = length l.wires in
-        let gs = gates_in first in
-        let hs = gates_in second in
-        let rooms : tally room_for (pair_gates first second) ≡ room gs hs =
-        tally-append room_for gs (inverse_list hs) ∙ rw (tally-inverse-room hs)
-        in
-        let variables : h_gates (pair_gates first second) ≡ h_gates gs + h_gates hs =
-        tally-append is_h gs (inverse_list hs) ∙ rw (h_gates-inverse hs)
-        in
-        let within = within_append n gs (inverse_list hs) fits.within (within_inverse n hs fits.within') in
-        record {
-          makes = rw (leaves_sum starts long.wires 0 refl);
-          terms = rw (stored-held starts.terms) starts.terms;
-          fits =
-              record {
-                flips = omega (arith, long.flips, long.wires, flips);
-                few = rw long.wires fits.few;
-                started = omega (arith, long.wires, starts.next);
-                within = rw long.wires within;
-                variables = omega (arith, starts.next, fits.variables);
-                sets = omega (arith, starts.terms.counted, fits.sets, long.sets);
-                coeffs = omega (arith, starts.terms.counted, fits.coeffs, long.coeffs);
-              };
-          long = long;
-        }
-
-    -- the first list fits
-    pub start_fits : Runnable s (gates_in first) l₁
-    start_fits = first_fit (gates_in first) (inverse_list (gates_in second)) start-run
-
-    -- after the first list
-    pub half_run :
-        {r : Run} {l₂ : Lent} →
-        Leaves (append_gates (length l₁.wires) (gates_in first) (sum_in s l₁)) s.phase.count r l₁ l₂ →
-        AsLong l₁ l₂ →
-        ToRun (append_gates (length l.wires) (pair_gates first second) (initial 0 (length l.wires)))
-        (inverse_list (gates_in second)) 0 r l l₂
-    half_run leaves long = some_run (gates_in first) (inverse_list (gates_in second)) s start-run leaves long
+-- before a pair's gates have run, on the sum of no gates, which a call left that was lent l
+pub start_run :
+    (first second : List ℕ) {l l₁ : Lent} →
+    Buildable (length l.wires) first second l.sets l.coeffs →
+    (s : Run) →
+    Leaves (initial 0 (length l.wires)) 0 s l l₁ →
+    AsLong l l₁ →
+    ToRun (append_gates (length l.wires) (miter_in first second) (initial 0 (length l.wires))) (miter_in first second) 0 s l l₁
+unfolding initial from
+start_run first second {l} {l₁} fits s starts long =
+    let n = length l.wires in
+    let gs = gates_in first in
+    let hs = gates_in second in
+    let rooms : tally room_for (miter_in first second) ≡ room gs hs =
+    tally-append room_for gs (inverse_list hs) ∙ rw (tally-inverse-room hs)
+    in
+    let variables : h_gates (miter_in first second) ≡ h_gates gs + h_gates hs =
+    tally-append is_h gs (inverse_list hs) ∙ rw (h_gates-inverse hs)
+    in
+    let within = within_append n gs (inverse_list hs) fits.within (within_inverse n hs fits.within') in
+    record {
+      makes = rw (leaves_sum starts long.wires 0 refl);
+      terms = rw (stored-held starts.terms) starts.terms;
+      fits =
+          record {
+            few = rw long.wires fits.few;
+            started = omega (arith, long.wires, starts.next);
+            within = rw long.wires within;
+            variables = omega (arith, starts.next, fits.variables);
+            sets = omega (arith, starts.terms.counted, fits.sets, long.sets);
+            coeffs = omega (arith, starts.terms.counted, fits.coeffs, long.coeffs);
+          };
+      long = long;
+    }
 
 -- after the last of the gates
 pub last_run :
@@ -566,16 +440,15 @@ stored_fresh {ts} {r} {ss} {cs} e =
 -- all gates run on the sum of no gates, and the terms merged, make the built sum
 pub built :
     (gs : List Gate) {s : Run} {k : ℕ} {live : Set} {l l₁ : Lent} {ss cs : List ℕ} →
-    ToRun (append_gates (length l.wires) gs (initial 0 (length l.wires))) [] 0 s l l₁ →
+    Leaves (append_gates (length l.wires) gs (initial 0 (length l.wires))) 0 s l l₁ →
     Stored s.phase.count (merged (held s.phase.count l₁.sets l₁.coeffs)) k l₁.sets l₁.coeffs ss cs →
     members (set_of live) ≡ from (length l.wires) (s.next - length l.wires) →
     Builds gs (record { live = live; phase = record { constant = s.phase.constant; count = k } }) l
-    (slices l₁.wires l₁.flips ss cs)
+    (slices l₁.wires ss cs)
 unfolding with_phase
-built gs {s} {l = l} run stored left =
+built gs {s} {l = l} leaves stored left =
     let n = length l.wires in
     let u = append_gates n gs (initial 0 n) in
-    let leaves = all_run run in
     let fewer = length-rebuild of 0 u.phase.terms in
     let again = rw (stored-held leaves.terms) at stored in
     let terms = stored_again (stored_fresh leaves.terms) again (omega arith) fewer in

@@ -1,7 +1,7 @@
 -- Sets of two words: the laws of any number of words (phase_sum_words) at `words_each`, in the forms that the code meets.
 -- Assumes nothing.
 use mathlib.Core.Path.{◌≡◌, refl, sym, ◌∙◌, ap}
-use mathlib.Core.Bool.{Bool, ◌&&◌, ◌||◌, not}
+use mathlib.Core.Bool.{◌&&◌, ◌||◌, not}
 use mathlib.Core.List.{List, [], ◌∷◌}
 use Prim.Native.Nat.{ℕ, zero, suc, ◌+◌, ◌-◌, ◌*◌, ◌/◌, ◌%◌, ◌^◌, ◌<◌, ◌≤◌}
 use native.Mathlib.Nat.{add_comm, mul_left_comm, add-mul-mod_self_left}
@@ -15,6 +15,7 @@ use lib.Pow.{pow_pos, pow-add}
 use lib.Seq.{sets, drop-cons}
 use Rattle.amplitude.specs.Bits.{bit}
 use Rattle.phase_sum_meaning.specs.Sets.{◌△◌, single}
+use Rattle.phase_sum_meaning.specs.Parity.{Parity}
 use Rattle.phase_sum_meaning.specs.Stepping.{out_of}
 use Rattle.phase_sum_meaning.specs.Room.{most_variables, words_each}
 use Rattle.phase_sum_words.specs.Words.{word_bits, wide, AreWords, Words, wordwise, except, ones_of, Lowest, sets_in, AnyWidth}
@@ -216,21 +217,19 @@ module _ (ws : List ℕ) (i : ℕ) (l : i < places_in ws) where
       ≡ set (sets_in words_each ws) i (out_of v (get_or (sets_in words_each ws) i 0))
   pair_without a v b = sets_in_without words_each some ws a i v l (omega arith)
 
--- what four slices hold, their sets given by the words
-abbrev pub by_words : List ℕ → List Bool → List ℕ → List ℕ → Lent
-by_words ws fs ss cs = slices (sets_in words_each ws) fs (sets_in words_each ss) cs
+-- what a sum is lent, its terms' sets given by the words
+abbrev pub by_words : List Parity → List ℕ → List ℕ → Lent
+by_words wires ss cs = slices wires (sets_in words_each ss) cs
 
 -- as many words hold as many sets
 same_places : (ws ws' : List ℕ) → length ws' ≡ length ws → length (sets_in words_each ws') ≡ length (sets_in words_each ws)
 same_places ws ws' e = places_of ws' ∙ ap (λ (n : ℕ). n / words_each) e ∙ sym (places_of ws)
 
--- so four slices of as many words and values hold as much
+-- so as many wires, words and coefficients hold as much
 pub words_long :
-    (ws ws' : List ℕ) {fs fs' : List Bool} (ss ss' : List ℕ) {cs cs' : List ℕ} →
-    length ws' ≡ length ws →
-    length fs' ≡ length fs →
+    {wires wires' : List Parity} (ss ss' : List ℕ) {cs cs' : List ℕ} →
+    length wires' ≡ length wires →
     length ss' ≡ length ss →
     length cs' ≡ length cs →
-    AsLong (by_words ws fs ss cs) (by_words ws' fs' ss' cs')
-words_long ws ws' ss ss' w f s c =
-    record { wires = same_places ws ws' w; flips = f; sets = same_places ss ss' s; coeffs = c }
+    AsLong (by_words wires ss cs) (by_words wires' ss' cs')
+words_long ss ss' w s c = record { wires = w; sets = same_places ss ss' s; coeffs = c }

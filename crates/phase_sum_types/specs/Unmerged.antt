@@ -1,7 +1,7 @@
 -- Building the sum with the terms put one behind the other as the gates run, to be merged once at the end: the order of merging
 -- does not matter (proofs/Merging.antt).
 -- Assumes nothing.
-use Rattle.std.specs.Prelude.{◌≡◌, ℕ, ◌+◌, ◌-◌, ◌%◌, ◌≤◌, Bool, cond, List, [], ◌∷◌, ◌++◌, length, eqb}
+use Rattle.std.specs.Prelude.{◌≡◌, ℕ, ◌+◌, ◌-◌, ◌%◌, ◌≤◌, cond, List, [], ◌∷◌, ◌++◌, length}
 use Rattle.record_format.specs.Gate.{Gate, AllWithin, inverse_list}
 use Rattle.record_format.specs.Reading.{gates_in}
 use Rattle.amplitude.specs.Circuit.{tally, h_gates}
@@ -10,7 +10,7 @@ use Rattle.phase_sum_meaning.specs.Parity.{Parity}
 use Rattle.phase_sum_meaning.specs.Phase.{Term, term, minus}
 use Rattle.phase_sum_meaning.specs.Building.{PathSum, Putting, initial, gate_by, build}
 use Rattle.phase_sum_meaning.specs.Room.{room_for, room, most_variables}
-use Rattle.phase_sum_types.specs.Workspace.{Stored, Lent, phase_of, wires_in, Became}
+use Rattle.phase_sum_types.specs.Workspace.{Stored, Lent, phase_of, Became}
 use Rattle.phase_sum_types.specs.declared.Run.{Run}
 use Rattle.phase_sum_types.specs.declared.Sum.{Sum}
 
@@ -44,14 +44,13 @@ abbrev pub sum_in : Run → Lent → PathSum
 sum_in r l =
     record {
       phase = phase_of r.phase l.sets l.coeffs;
-      wires = wires_in l;
+      wires = l.wires;
       live = from (length l.wires) (r.next - length l.wires);
     }
 
--- what running gates asks for: a place a qubit, at most 16 qubits, the gates on these, no more variables in the end than a pair may have,
+-- what running gates asks for: at most 16 qubits, the gates on these, no more variables in the end than a pair may have,
 -- and room for the terms in both workspaces
 pub record Runnable (r : Run) (gs : List Gate) (l : Lent) : Type 0 where
-  pub flips : length l.flips ≡ length l.wires
   pub few : length l.wires ≤ 16
   pub started : length l.wires ≤ r.next
   pub within : AllWithin (length l.wires) gs
@@ -63,7 +62,7 @@ pub record Runnable (r : Run) (gs : List Gate) (l : Lent) : Type 0 where
 pub record Leaves (u : PathSum) (m : ℕ) (r : Run) (l l' : Lent) : Type 0 where
   pub next : r.next ≡ length l.wires + length u.live
   pub constant : r.phase.constant ≡ u.phase.constant
-  pub wires : wires_in l' ≡ u.wires
+  pub wires : l'.wires ≡ u.wires
   pub terms : Stored m u.phase.terms r.phase.count l.sets l.coeffs l'.sets l'.coeffs
 
 -- what a call leaves that ran the gate g on the sum s
@@ -73,10 +72,6 @@ Runs g s r l l' = Leaves (append_gate (length l.wires) g (sum_in s l)) s.phase.c
 -- what a call leaves that ran the gates gs
 abbrev pub RunsAll : List Gate → Run → Run → Lent → Lent → Type 0
 RunsAll gs s r l l' = Leaves (append_gates (length l.wires) gs (sum_in s l)) s.phase.count r l l'
-
--- a gate that adds no term only moves wires: X, CX, SWAP
-abbrev pub moves_only : Gate → Bool
-moves_only g = eqb (room_for g) 0
 
 -- running g on a sum with the wires ws gives it the wires ws' and changes nothing else
 abbrev pub Moves : Gate → List Parity → List Parity → Type 0

@@ -1,7 +1,8 @@
 -- Terms in two lent workspaces: the sets in one, `words_each` words a place, the coefficients in the other, the terms in the first places of
 -- both. Document 01, "Building the sum" and "Report, pick, builder"; document 02, item 6.
 -- Assumes nothing.
-use Rattle.std.specs.Prelude.{◌≡◌, ℕ, ◌+◌, ◌-◌, ◌*◌, ◌/◌, ◌%◌, ◌≤◌, Bool, cond, List, [], ◌∷◌, ◌++◌, map, length, take, drop, replicate}
+use Rattle.std.specs.Prelude.{◌≡◌, ℕ, ◌+◌, ◌-◌, ◌*◌, ◌/◌, ◌%◌, ◌≤◌, Bool, cond, List, [], ◌∷◌, ◌++◌, map, length, take, drop, replicate, Some, None}
+use Rattle.std.specs.Prelude as code
 use Rattle.std.proofs.Math.Option.{Option, none, some}
 use Rattle.amplitude.specs.Bits.{bit}
 use Rattle.phase_sum_meaning.specs.Sets.{from}
@@ -15,8 +16,6 @@ use Rattle.phase_sum_types.specs.declared.Set.{Set}
 use Rattle.phase_sum_types.specs.declared.Phase.{Phase}
 use Rattle.phase_sum_types.specs.declared.Parity.{Parity as ParityWord}
 use Rattle.phase_sum_types.specs.declared.Sum.{Sum}
-use Rattle.phase_sum_types.specs.declared.Found.{Found}
-use Rattle.phase_sum_types.specs.declared.Found.TheVariants.{Variable, Nothing}
 
 -- the words of a set, the low variables first
 abbrev pub words_of_set : Set → List ℕ
@@ -102,29 +101,20 @@ zip_wires [] bs = []
 zip_wires (s ∷ ss) [] = []
 zip_wires (s ∷ ss) (b ∷ bs) = record { vars = s; flipped = b } ∷ zip_wires ss bs
 
--- what the four slices that a sum is lent hold: its wires' sets and constant bits, one place a qubit, and its terms' sets and coefficients.
--- The sets of a slice are those that its words hold
+-- what a sum is lent: the parities of its wires, one a qubit, and in two slices its terms' sets and coefficients. The sets of a slice are
+-- those that its words hold
 pub record Lent : Type 0 where
-  pub wires : List ℕ
-  pub flips : List Bool
+  pub wires : List Parity
   pub sets : List ℕ
   pub coeffs : List ℕ
 
--- the four by their lists
-abbrev pub slices : List ℕ → List Bool → List ℕ → List ℕ → Lent
-slices ws fs ss cs = record { wires = ws; flips = fs; sets = ss; coeffs = cs }
+-- the wires and the slices by their lists
+abbrev pub slices : List Parity → List ℕ → List ℕ → Lent
+slices wires ss cs = record { wires = wires; sets = ss; coeffs = cs }
 
--- the four by what the slices hold, the sets by their words: before a call or after it
-abbrev pub lent : List ℕ → List Bool → List ℕ → List ℕ → Lent
-lent ws fs ss cs = slices (sets_at ws) fs (sets_at ss) cs
-
--- in the four slices each word is one of a set that has its place in the other slice
-abbrev pub Levelled : List ℕ → List Bool → List ℕ → List ℕ → Type 0
-Levelled ws fs ss cs = Level ws fs × Level ss cs
-
--- the parities of the wires
-abbrev pub wires_in : Lent → List Parity
-wires_in l = zip_wires l.wires l.flips
+-- the wires and the slices by what these hold, the sets by their words: before a call or after it
+abbrev pub lent : List Parity → List ℕ → List ℕ → Lent
+lent wires ss cs = slices wires (sets_at ss) cs
 
 -- the numbers of a list that are in a set
 unfoldable pub among : ℕ → List ℕ → List ℕ
@@ -135,18 +125,17 @@ among s (v ∷ vs) = cond (bit v s) (v ∷ among s vs) (among s vs)
 abbrev pub members : ℕ → List ℕ
 members s = among s (from 0 most_variables)
 
--- what a search for a variable found
-abbrev pub found_of : Found → Option ℕ
-found_of (Variable v) = some v
-found_of Nothing = none
+-- what a search for a variable found, an option of the code, as one of the definitions
+abbrev pub found_of : code.Option ℕ → Option ℕ
+found_of (Some v) = some v
+found_of None = none
 
--- the path sum that a sum and its slices stand for
+-- the path sum that a sum and what it is lent stand for
 abbrev pub sum_of : Sum → Lent → PathSum
-sum_of s l = record { phase = phase_of s.phase l.sets l.coeffs; wires = wires_in l; live = members (set_of s.live) }
+sum_of s l = record { phase = phase_of s.phase l.sets l.coeffs; wires = l.wires; live = members (set_of s.live) }
 
--- what changing a sum asks of its slices: a constant bit for each wire, and as many places as there are terms
+-- what changing a sum asks of its slices: as many places as there are terms
 pub record Stands (s : Sum) (l : Lent) : Type 0 where
-  pub flips : length l.flips ≡ length l.wires
   pub sets : s.phase.count ≤ length l.sets
   pub coeffs : s.phase.count ≤ length l.coeffs
 
@@ -162,13 +151,10 @@ Changed f m s r l l' = Became (f (sum_of s l)) m r l l'
 -- what a call leaves that changed a sum by f and was not lent its wires
 abbrev pub TermsChanged : (PathSum → PathSum) → ℕ → Sum → Sum → List ℕ → List ℕ → List ℕ → List ℕ → Type 0
 TermsChanged f m s r ss cs ss' cs' =
-    (ws : List ℕ) (fs : List Bool) →
-    Changed f m s r (slices ws fs (sets_at ss) cs) (slices ws fs (sets_at ss') cs')
+    (wires : List Parity) → Changed f m s r (slices wires (sets_at ss) cs) (slices wires (sets_at ss') cs')
 
--- what reducing a sum asks of its slices: at most 16 wires, a constant bit for each, and room for the terms and one more for each variable
--- left
+-- what reducing a sum asks of what it is lent: at most 16 wires, and room for the terms and one more for each variable left
 pub record Sized (s : Sum) (l : Lent) : Type 0 where
   pub few : length l.wires ≤ 16
-  pub flips : length l.flips ≡ length l.wires
   pub sets : s.phase.count + length (members (set_of s.live)) ≤ length l.sets
   pub coeffs : s.phase.count + length (members (set_of s.live)) ≤ length l.coeffs

@@ -6,48 +6,75 @@
 // the lent buffer holds afterwards. A row that cannot be read prints `bad row`.
 #![tactic(auto)]
 
-mod calls;
-mod names;
 mod readers;
 mod writers;
 
-use calls_text::{lines, part, print};
+use calls_text::error::RowError;
+use calls_text::rows;
+use calls_text::rows::Row;
+use std::alloc::Global;
 use std::io;
-use std::io::{BufWriter, Write};
+use std::io::Write;
 
-// One row: its name, and then what the call gives.
-fn row(out: &mut impl Write, buffer: &[u8], size: usize) -> io::Result<()> {
-    let row = lines::begin(out, buffer, size)?;
-    if lines::is_row(row) {
-        calls::run(
-            out,
-            part(row, b';', 1),
-            part(row, b';', 2),
-            part(row, b';', 3),
-            part(row, b';', 4),
-        )?;
-    } else {
-        print::bad(out)?;
+// What the call of a row answers. A call that takes no such part, or none of the name, makes the row bad.
+fn answer(alloc: Global, out: &mut impl Write, row: Row<'_>) -> Result<(), RowError> {
+    match row {
+        Row {
+            call: "check",
+            numbers: "",
+            first,
+            second: "",
+        } => readers::check(alloc, out, first),
+        Row {
+            call: "gates",
+            numbers: "",
+            first,
+            second: "",
+        } => readers::gates(alloc, out, first),
+        Row {
+            call: "read_report",
+            numbers: "",
+            first,
+            second: "",
+        } => readers::read_report(alloc, out, first),
+        Row {
+            call: "check_gate",
+            numbers,
+            first: "",
+            second: "",
+        } => readers::check_gate(out, numbers),
+        Row {
+            call: "start",
+            numbers,
+            first: "",
+            second,
+        } => writers::start(alloc, out, numbers, second),
+        Row {
+            call: "add",
+            numbers,
+            first: "",
+            second,
+        } => writers::add(alloc, out, numbers, second),
+        Row {
+            call: "inverse",
+            numbers,
+            first,
+            second,
+        } => writers::inverse(alloc, out, numbers, first, second),
+        Row {
+            call: "write_report",
+            numbers,
+            first: "",
+            second,
+        } => writers::write_report(alloc, out, numbers, second),
+        _ => Err(RowError::Bad),
     }
-    print::text(out, b"\n")
 }
 
-// Rows until the input ends. Nothing says that it does, so the turns are counted down, from a number that no run uses up.
+// Stays: a program has a main of its own, which names what it runs.
 fn main(rt: HostRuntime) -> io::Result<()> {
-    let mut input = rt.stdin();
-    let mut out = BufWriter::new(rt.alloc(), io::writer(&rt))?;
-    let mut piece = [0u8; lines::PIECE];
-    let mut line = [0u8; lines::MOST];
-    let mut lines = lines::none();
-    let mut turns = u64::MAX;
-    while turns > 0 {
-        lines = lines::next(lines, &mut input, &mut piece, &mut line)?;
-        if !lines.more {
-            break;
-        }
-        row(&mut out, &line, lines.size)?;
-        turns -= 1;
-    }
-    lines::end(&mut out, lines)?;
-    out.flush()
+    let alloc = rt.alloc();
+    rows::run(alloc, rt.stdin(), rt.stdout(), |out, row| {
+        answer(alloc, out, row)
+    })
 }

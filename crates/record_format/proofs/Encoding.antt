@@ -36,11 +36,15 @@ pub length_gates : (s : List ℕ) → size (count s) ≤ length s → length (ga
 length_gates s long = simp (length-map, length-raws, length-take, length-drop) (omega arith)
 
 -- a gate is three bytes
+pub length-gate : (g : Gate) → length (gate_bytes g) ≡ gate_size
+unfolding gate_bytes
+length-gate (one u a) = refl
+length-gate (two v a b) = refl
+
 pub length-body : (gs : List Gate) → length (body_bytes gs) ≡ gate_size * length gs
-unfolding body_bytes gate_bytes
+unfolding body_bytes
 length-body [] = refl
-length-body (one u a ∷ gs) = omega (arith, length-body gs)
-length-body (two v a b ∷ gs) = omega (arith, length-body gs)
+length-body (g ∷ gs) = simp length-append (omega (arith, length-gate g, length-body gs))
 
 -- the length of a record
 pub length-encode : (n : ℕ) (gs : List Gate) → length (encode n gs) ≡ size (length gs)
@@ -250,7 +254,7 @@ body_gates s good =
 pub encode-appended : (s : List ℕ) (r : Raw) (i : ℕ)
     → first (record_rows s) ≡ none
     → first (gate_rows (qubits s) i r) ≡ none
-    → encode (qubits s) (gates s ++ gate_of r ∷ []) ≡ appended (qubits s) (count s) r s
+    → encode (qubits s) (gates s ++ gate_of r ∷ []) ≡ appended (qubits s) (count s) (r.kind ∷ r.a ∷ r.b ∷ []) s
 unfolding encode body_bytes
 encode-appended s r i good new =
     let same = length_gates s (good_head s good).whole in
@@ -271,12 +275,11 @@ inverse-body [] = unfold inverse_list in refl
 inverse-body (g ∷ gs) =
     rw (inverse_cons g gs, body-append (inverse_list gs) (inverse_gate g ∷ []), append-nil, inverse-body gs, inverse-gate g (body_bytes gs))
 
--- the inverse record is the old head and the inverted gate bytes
+-- the inverse record is the old head and the bytes of the inverted gates
 pub encode-inverse : (s : List ℕ) → first (record_rows s) ≡ none
-    → encode (qubits s) (inverse_list (gates s)) ≡ head_bytes (qubits s) (count s) ++ inverse_bytes (body s)
+    → encode (qubits s) (inverse_list (gates s)) ≡ head_bytes (qubits s) (count s) ++ body_bytes (inverse_list (gates s))
 unfolding encode
-encode-inverse s good =
-    rw (length-inverse, length_gates s (good_head s good).whole, inverse-body (gates s), body_gates s good)
+encode-inverse s good = rw (length-inverse, length_gates s (good_head s good).whole)
 
 -- a number below 65536 is the number of its two bytes
 pub two_bytes_back : (x : ℕ) → x < 65536 → from_bytes (x % 256) (x / 256 % 256) ≡ x

@@ -14,7 +14,7 @@ unfolding inverse_list
 inverse_cons g gs = reverse-cons (inverse_gate g) (map inverse_gate gs)
 
 -- a last gate's inverse comes first
-inverse_snoc : (gs : List Gate) (g : Gate) → inverse_list (gs ++ g ∷ []) ≡ inverse_gate g ∷ inverse_list gs
+pub inverse_snoc : (gs : List Gate) (g : Gate) → inverse_list (gs ++ g ∷ []) ≡ inverse_gate g ∷ inverse_list gs
 unfolding inverse_list
 inverse_snoc gs g = rw (map-append, reverse-append)
 

@@ -16,7 +16,6 @@ use Rattle.record_format.specs.Gate.{Gate, Raw, gate_of}
 use Rattle.record_format.specs.Row.{Fault, fault, Row, row, first}
 use Rattle.record_format.specs.Reading.{size, qubits, count, body, raws, raw_at, gates, head_rows, gate_rows, all_gate_rows, record_rows, accepted, refused, read}
 use Rattle.record_format.specs.Answer.{refuses}
-use Rattle.record_format.specs.declared.Checked.TheVariants.{Accepted}
 use Rattle.record_format.specs.Writing.{Outcome, encode, write, start, add, inverse}
 use Rattle.record_format.specs.Report.{report_rows, write_report, read_report}
 use Rattle.record_format.specs.Promises.{FirstHolds, writer_rows, FirstBadGate, IndexIsFirstBad, AddedGateIndex, RecordsFaultIsKept, IndexedAsAGate, OnlyGatesHaveAnIndex}
@@ -141,7 +140,7 @@ index_is_first_bad s i f = (λ (is, at). forth at (stopped s f is) (first (head_
 module _ (r : Raw) (l : List ℕ) (n : ℕ) (gs : List Gate) (is : read l ≡ accepted n gs) where
   -- it has n qubits and as many gates as gs
   there : Accepts l n (length gs)
-  there = accepts l (Accepted n (length gs)) n (length gs) (rw is) refl
+  there = accepts l n (length gs) (rw is)
 
   -- the record that adding writes
   abbrev new : List ℕ

@@ -11,3 +11,5 @@ pub mod Theorems
 pub mod Indices
 pub mod Cuts
 pub mod Parts
+pub mod Chunks
+pub mod Results

@@ -9,20 +9,17 @@ use native.Mathlib.Numerals.{add-one}
 use native.Mathlib.Omega.{arith}
 use lib.ListN.{length, get_or, take, drop}
 use borrow.Author.Tests.{ltb-false}
-use Rattle.record_format.specs.Gate.{Raw, raw}
+use Rattle.record_format.specs.Gate.{Raw, raw, raw_of_three}
 use Rattle.record_format.specs.Row.{Fault, fault_at, Row, first}
 use Rattle.record_format.specs.Reading.{qubits, count, size, body, raws, raw_at, gates, head_rows, gate_rows, all_gate_rows, record_rows, accepted, unless, read}
-use Rattle.record_format.specs.Answer.{gives, refuses, fault_of, checked_answer, gate_fault}
-use Rattle.record_format.specs.declared.Refusal.{Refusal}
-use Rattle.record_format.specs.declared.Checked.{Checked}
-use Rattle.record_format.specs.declared.Checked.TheVariants.{Accepted}
-use Rattle.record_format.specs.declared.gate.GateCheck.{GateCheck}
-use Rattle.record_format.specs.declared.gate.GateCheck.TheVariants.{Good}
+use Rattle.record_format.specs.Answer.{gives, refuses}
 use Rattle.record_format.specs.Writing.{fault_or, check_answer}
 use Rattle.record_format.specs.Inner.{head_answer}
 use Rattle.record_format.proofs.Rows.{none_holds, first_none, first_some, AllFaults, all_both}
 use Rattle.record_format.proofs.Encoding.{GoodHead, good_head, length_gates}
 use Rattle.record_format.proofs.Storing.{three_at}
+use Rattle.record_format.proofs.Chunks.{raws_of}
+use Rattle.std.proofs.lemmas.List.{at_drop_more}
 
 -- what all faults of one gate are, those of several gates are
 pub gates_all :
@@ -75,16 +72,27 @@ pub stop_bad : (s : List ℕ) (n g i : ℕ) (f : Fault) → i < g → 5 + 3 * g 
 stop_bad s n g i f h whole bad =
     rw (rows_from_step s n g i h whole) (first_some (gate_rows n i (raw_at s i)) (rows_from s n g (i + 1)) f bad)
 
--- the check of one gate of a record, which found so much
-module _ (s : List ℕ) (n g i : ℕ) (found : GateCheck) (h : i < g) (whole : 5 + 3 * g ≤ length s)
-    (faults : gate_fault found ≡ first (gate_rows n i (raw_at s i))) where
-  -- a gate that it found good is passed
-  pub pass_checked : found ≡ Good → first (rows_from s n g i) ≡ first (rows_from s n g (i + 1))
-  pass_checked is = pass_good s n g i h whole (sym faults ∙ ap gate_fault is)
+-- the rows of gates in chunks of three bytes, from the one at index i on
+abbrev pub chunk_rows : ℕ → List (List ℕ) → ℕ → List (Row Fault)
+chunk_rows n chunks i = all_gate_rows n i (raws_of (drop i chunks))
 
-  -- the fault of one that it refused is the first
-  pub stop_checked : {r : Refusal} → found ≡ GateCheck.Refused r → first (rows_from s n g i) ≡ some (fault_of r)
-  stop_checked {r} is = stop_bad s n g i (fault_of r) h whole (sym faults ∙ ap gate_fault is)
+module _ (n : ℕ) (chunks : List (List ℕ)) (i : ℕ) (h : i < length chunks) where
+  -- those of the gate at index i come first
+  chunk_rows_step : first (chunk_rows n chunks i)
+      ≡ first (gate_rows n i (raw_of_three (get_or chunks i [])) ++ chunk_rows n chunks (i + 1))
+  unfolding all_gate_rows
+  chunk_rows_step =
+      rw (add-one i) (rw (add-one i) at (at_drop_more (λ cs. first (all_gate_rows n i (raws_of cs))) chunks i [] h))
+
+  -- a good gate is passed
+  pub chunk_passed : none ≡ first (gate_rows n i (raw_of_three (get_or chunks i [])))
+      → first (chunk_rows n chunks (i + 1)) ≡ first (chunk_rows n chunks i)
+  chunk_passed good = sym (chunk_rows_step ∙ first_none (gate_rows n i (raw_of_three (get_or chunks i []))) _ (sym good))
+
+  -- a bad gate's fault is the first
+  pub chunk_stopped : {f : Fault} → some f ≡ first (gate_rows n i (raw_of_three (get_or chunks i [])))
+      → some f ≡ first (chunk_rows n chunks i)
+  chunk_stopped {f} bad = sym (chunk_rows_step ∙ first_some (gate_rows n i (raw_of_three (get_or chunks i []))) _ f (sym bad))
 
 -- where no row stops head and body, the body is whole
 pub whole-body : (s : List ℕ) → first (head_rows s) ≡ none → size (count s) ≤ length s
@@ -143,10 +151,10 @@ pub record Accepts (s : List ℕ) (n g : ℕ) : Type 0 where
   pub n_is : n ≡ qubits s
   pub g_is : g ≡ count s
 
--- a check that answered n and g accepts the record, and they are its own
-pub accepts : (s : List ℕ) (found : Checked) (n g : ℕ) → checked_answer found ≡ check_answer (read s) → found ≡ Accepted n g → Accepts s n g
+-- a check that answers n and g accepts the record, and they are its own
+pub accepts : (s : List ℕ) (n g : ℕ) → gives (n ∷ g ∷ []) ≡ check_answer (read s) → Accepts s n g
 unfolding read
-accepts s found n g answers is = go (first (record_rows s)) refl (rw is at answers)
+accepts s n g answers = go (first (record_rows s)) refl answers
   where
     go : (o : Option Fault) → first (record_rows s) ≡ o → gives (n ∷ g ∷ []) ≡ check_answer (unless o (accepted (qubits s) (gates s)))
         → Accepts s n g
@@ -156,12 +164,11 @@ accepts s found n g answers is = go (first (record_rows s)) refl (rw is at answe
         record { good = good; head = head; n_is = cc; g_is = length-is ∙ length_gates s head.whole }
     go (some f) bad h = let z : ◌≡◌ {A = ℕ} 0 1 = cc in absurd (omega arith)
 
--- a check that answered a refusal found its fault
-pub refuses_by : (s : List ℕ) (found : Checked) (r : Refusal) → checked_answer found ≡ check_answer (read s) → found ≡ Checked.Refused r
-    → first (record_rows s) ≡ some (fault_of r)
+-- a check that refuses a record found its fault
+pub refuses_by : (s : List ℕ) (f : Fault) → refuses f ≡ check_answer (read s) → first (record_rows s) ≡ some f
 unfolding read
-refuses_by s found r answers is = go (first (record_rows s)) (rw is at answers)
+refuses_by s f answers = go (first (record_rows s)) answers
   where
-    go : (o : Option Fault) → refuses (fault_of r) ≡ check_answer (unless o (accepted (qubits s) (gates s))) → o ≡ some (fault_of r)
+    go : (o : Option Fault) → refuses f ≡ check_answer (unless o (accepted (qubits s) (gates s))) → o ≡ some f
     go none h = let z : ◌≡◌ {A = ℕ} 0 1 = cc in absurd (omega arith)
-    go (some f) h = cc
+    go (some f') h = cc

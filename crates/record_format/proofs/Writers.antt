@@ -1,7 +1,7 @@
 -- What the writers answer and leave, from what the checks before them answered and from the buffer's length.
 -- Assumes nothing.
-use mathlib.Core.Path.{◌≡◌, ◌∙◌}
-use Prim.Native.Nat.{ℕ, ◌+◌, ◌*◌, ◌≤◌, ◌<◌}
+use mathlib.Core.Path.{◌≡◌, sym, ◌∙◌}
+use Prim.Native.Nat.{ℕ, suc, ◌+◌, ◌*◌, ◌≤◌, ◌<◌}
 use native.Mathlib.Nat.{add_assoc}
 use native.Mathlib.Omega.{arith}
 use mathlib.Core.Logic.{◌≢◌}
@@ -12,20 +12,23 @@ use lib.ListN.{length, take, drop, length-append, length-take, length-drop, leng
 use lib.Seq.{take-append-add}
 use lib.Dec.{ltb, eqb}
 use borrow.Author.Tests.{lt-ltb, le-ltb, eq-eqb, ne_eqb}
-use Rattle.record_format.specs.Gate.{Raw, inverse_list}
+use Rattle.record_format.specs.Gate.{Gate, Raw, gate_bytes, body_bytes, inverse_list}
 use Rattle.record_format.specs.Row.{Fault, fault, Row, row, first}
-use Rattle.record_format.specs.Reading.{size, qubits, count, gates, gate_rows, record_rows, read}
-use Rattle.record_format.specs.Answer.{gives, refuses, fault_of, checked_answer, gate_fault}
-use Rattle.record_format.specs.declared.Refusal.{Refusal}
-use Rattle.record_format.specs.declared.Checked.{Checked}
-use Rattle.record_format.specs.declared.gate.GateCheck.{GateCheck}
-use Rattle.record_format.specs.declared.gate.GateCheck.TheVariants.{Good}
+use Rattle.record_format.specs.Reading.{size, qubits, count, gates, gates_in, gate_rows, record_rows, read}
+use Rattle.record_format.specs.Answer.{gives, refuses}
 use Rattle.record_format.specs.Writing.{Outcome, head_bytes, encode, check_answer, write, add, inverse}
-use Rattle.record_format.specs.Inner.{appended, inverse_bytes}
+use Rattle.record_format.specs.Inner.{appended}
 use Rattle.record_format.proofs.Rows.{first_none, first_some}
-use Rattle.record_format.proofs.Encoding.{length_gates, length-encode, encode-appended, encode-inverse}
-use Rattle.record_format.proofs.Storing.{behind_head}
+use Rattle.record_format.proofs.Encoding.{length-gate, length-body, length_gates, length-encode, encode-appended, encode-inverse}
+use Rattle.record_format.proofs.Storing.{behind_head, with_left, piece_stored}
 use Rattle.record_format.proofs.Reading.{Accepts, refuses_by}
+
+-- a gate's bytes stored are the first of those of a list
+pub gate_stored : (l bytes : List ℕ) (at : ℕ) (g : Gate) (gs : List Gate) → bytes ≡ gate_bytes g → at + 3 * suc (length gs) ≤ length l
+    → with_left (take at l ++ bytes ++ drop (at + 3) l) (at + 3) (body_bytes gs) ≡ with_left l at (body_bytes (g ∷ gs))
+unfolding body_bytes
+gate_stored l bytes at g gs e h =
+    rw e (piece_stored l (gate_bytes g) (body_bytes gs) at 3 (length-gate g) (omega (arith, length-body gs)))
 
 -- a writer that is refused by a fault leaves the buffer l alone
 abbrev pub turned_down : {F : Type 0} → F → List ℕ → Outcome F
@@ -53,34 +56,10 @@ pub write_refused : (rows : List (Row Fault)) (new l : List ℕ) (f : Fault) →
 unfolding write
 write_refused rows new l f bad = rw (first_some rows (row 11 (ltb (length l) (length new)) ∷ []) f bad)
 
--- the record with one gate more has three bytes more
-length-appended : (n g : ℕ) (r : Raw) (l : List ℕ) → size g ≤ length l → length (appended n g r l) ≡ size g + 3
-length-appended n g r l h = simp (length-append, length-take, length-drop) (omega arith)
-
--- a gate is not added where the buffer ends before its bytes would
-pub append_short : (n g : ℕ) (r : Raw) (l : List ℕ) → size g ≤ length l → length l < size g + 3
-    → write [] (appended n g r l) l ≡ turned_down (fault 11) l
-append_short n g r l whole short = write_short (appended n g r l) l (size g + 3) (length-appended n g r l whole) short
-
--- a new head and then a gate behind the old ones are what adding writes
-pub append-stored : (n g : ℕ) (r : Raw) (l m : List ℕ) → size g + 3 ≤ length l → m ≡ head_bytes n (g + 1) ++ drop 5 l
-    → write [] (appended n g r l) l
-    ≡ record { answer = gives ((size g + 3) ∷ []); buffer = take (size g) m ++ r.kind ∷ r.a ∷ r.b ∷ drop (size g + 3) m }
-append-stored n g r l m fits e =
-    let h : List ℕ = head_bytes n (g + 1) in
-    let old : List ℕ = h ++ take (3 * g) (drop 5 l) in
-    let new : List ℕ = r.kind ∷ r.a ∷ r.b ∷ [] in
-    write_fits (appended n g r l) l (size g + 3) (length-appended n g r l (omega arith)) fits
-    ∙ rw (e, take-append-add h (drop 5 l) (3 * g), add_assoc 5 (3 * g) 3, behind_head h l (3 * g + 3), append_assoc old new)
-
 -- adding to a record that is refused
-pub add_unread : (r : Raw) (l : List ℕ) (found : Checked) (no_record : Refusal) → checked_answer found ≡ check_answer (read l)
-    → found ≡ Checked.Refused no_record
-    → add r l ≡ turned_down (fault_of no_record) l
+pub add_unread : (r : Raw) (l : List ℕ) (f : Fault) → refuses f ≡ check_answer (read l) → add r l ≡ turned_down f l
 unfolding add
-add_unread r l found no_record answers is =
-    let f = fault_of no_record in
-    write_refused _ _ l f (first_some (record_rows l) _ f (refuses_by l found no_record answers is))
+add_unread r l f answers = write_refused _ _ l f (first_some (record_rows l) _ f (refuses_by l f answers))
 
 -- the first fault of a gate to add to a record that was accepted
 pub first_to_add : (r : Raw) (l : List ℕ) (n g : ℕ) → Accepts l n g
@@ -95,32 +74,47 @@ unfolding add
 add_full r l n g read-l full = write_refused _ _ l (fault 4) (first_to_add r l n g read-l ∙ rw (eq-eqb g 512 full))
 
 -- adding a bad gate
-pub add_bad : (r : Raw) (l : List ℕ) (n g : ℕ) (found : GateCheck) (no_gate : Refusal) → Accepts l n g → g ≢ 512
-    → gate_fault found ≡ first (gate_rows n g r)
-    → found ≡ GateCheck.Refused no_gate
-    → add r l ≡ turned_down (fault_of no_gate) l
+pub add_bad : (r : Raw) (l : List ℕ) (n g : ℕ) (f : Fault) → Accepts l n g → g ≢ 512 → some f ≡ first (gate_rows n g r)
+    → add r l ≡ turned_down f l
 unfolding add
-add_bad r l n g found no_gate read-l room faults is =
-    write_refused _ _ l (fault_of no_gate) (first_to_add r l n g read-l ∙ rw (ne_eqb g 512 room, ← faults, is))
+add_bad r l n g f read-l room bad = write_refused _ _ l f (first_to_add r l n g read-l ∙ rw (ne_eqb g 512 room) (sym bad))
 
--- adding a good one
-pub add_good : (r : Raw) (l : List ℕ) (n g : ℕ) (found : GateCheck) → Accepts l n g → g ≢ 512
-    → gate_fault found ≡ first (gate_rows n g r)
-    → found ≡ Good
-    → add r l ≡ write [] (appended n g r l) l
-unfolding add
-add_good r l n g found read-l room faults is =
-    let good : first (gate_rows n g r) ≡ none = rw (← faults, is) in
-    write_on _ _ l (first_to_add r l n g read-l ∙ rw (ne_eqb g 512 room) good)
-    ∙ rw (read-l.n_is, read-l.g_is, encode-appended l r g read-l.good (rw read-l.n_is at good))
+-- adding a good gate
+module _ (r : Raw) (l : List ℕ) (n g : ℕ) (read-l : Accepts l n g) (room : g ≢ 512) (passed : none ≡ first (gate_rows n g r)) where
+  -- its bytes
+  abbrev bytes : List ℕ
+  bytes = r.kind ∷ r.a ∷ r.b ∷ []
+
+  -- leaves the length alone to check
+  add_good : add r l ≡ write [] (appended n g bytes l) l
+  unfolding add
+  add_good =
+      let good : first (gate_rows n g r) ≡ none = sym passed in
+      write_on _ _ l (first_to_add r l n g read-l ∙ rw (ne_eqb g 512 room) good)
+      ∙ rw (read-l.n_is, read-l.g_is, encode-appended l r g read-l.good (rw read-l.n_is at good))
+
+  -- the new record is three bytes longer
+  length-appended : length (appended n g bytes l) ≡ size g + 3
+  length-appended = simp (length-append, length-take, length-drop) (omega (arith, read-l.head.whole, read-l.g_is))
+
+  -- the gate is not added where the buffer ends before its bytes would
+  pub add_short : length l < size g + 3 → add r l ≡ turned_down (fault 11) l
+  add_short short = add_good ∙ write_short (appended n g bytes l) l (size g + 3) length-appended short
+
+  -- a new head and then its bytes behind the old gates are what adding writes
+  pub add_stored : (m : List ℕ) → size g + 3 ≤ length l → m ≡ head_bytes n (g + 1) ++ drop 5 l
+      → add r l ≡ record { answer = gives ((size g + 3) ∷ []); buffer = take (size g) m ++ bytes ++ drop (size g + 3) m }
+  add_stored m fits e =
+      let h : List ℕ = head_bytes n (g + 1) in
+      let old : List ℕ = h ++ take (3 * g) (drop 5 l) in
+      add_good
+      ∙ write_fits (appended n g bytes l) l (size g + 3) length-appended fits
+      ∙ rw (e, take-append-add h (drop 5 l) (3 * g), add_assoc 5 (3 * g) 3, behind_head h l (3 * g + 3), append_assoc old bytes)
 
 -- inverting a record that is refused
-pub inverse_unread : (s l : List ℕ) (found : Checked) (no_record : Refusal) → checked_answer found ≡ check_answer (read s)
-    → found ≡ Checked.Refused no_record
-    → inverse s l ≡ turned_down (fault_of no_record) l
+pub inverse_unread : (s l : List ℕ) (f : Fault) → refuses f ≡ check_answer (read s) → inverse s l ≡ turned_down f l
 unfolding inverse
-inverse_unread s l found no_record answers is =
-    write_refused (record_rows s) _ l (fault_of no_record) (refuses_by s found no_record answers is)
+inverse_unread s l f answers = write_refused (record_rows s) _ l f (refuses_by s f answers)
 
 -- the inverse is as long as the record
 length-inverse : (s : List ℕ) (n g : ℕ) → Accepts s n g → length (encode (qubits s) (inverse_list (gates s))) ≡ size g
@@ -134,11 +128,13 @@ unfolding inverse
 inverse_short s l n g read-s short = write_on _ _ l read-s.good ∙ write_short _ l (size g) (length-inverse s n g read-s) short
 
 -- a head and then the inverted gates behind it are what inverting writes
-pub inverse-stored : (s l : List ℕ) (n g : ℕ) (m : List ℕ) → Accepts s n g → size g ≤ length l → m ≡ head_bytes n g ++ drop 5 l
+pub inverse_stored : (s l : List ℕ) (n g : ℕ) (m bytes : List ℕ) → Accepts s n g → size g ≤ length l → m ≡ head_bytes n g ++ drop 5 l
+    → bytes ≡ take (3 * g) (drop 5 s)
     → inverse s l
-    ≡ record { answer = gives (size g ∷ []); buffer = take 5 m ++ inverse_bytes (take (3 * g) (drop 5 s)) ++ drop (size g) m }
+    ≡ record { answer = gives (size g ∷ []); buffer = take 5 m ++ body_bytes (inverse_list (gates_in bytes)) ++ drop (5 + length bytes) m }
 unfolding inverse
-inverse-stored s l n g m read-s fits e =
+inverse_stored s l n g m bytes read-s fits e part =
+    let long : length bytes ≡ 3 * g = rw part (simp (length-take, length-drop) (omega (arith, read-s.head.whole, read-s.g_is))) in
     write_on _ _ l read-s.good
     ∙ write_fits _ l (size g) (length-inverse s n g read-s) fits
-    ∙ rw (e, behind_head (head_bytes n g) l (3 * g), encode-inverse s read-s.good, read-s.n_is, read-s.g_is)
+    ∙ rw (long, e, behind_head (head_bytes n g) l (3 * g), encode-inverse s read-s.good, part, read-s.n_is, read-s.g_is)

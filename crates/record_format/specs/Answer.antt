@@ -1,19 +1,12 @@
 -- What the cases of the layer's answers mean in the numbers, indices and values of documents 01 and 02. The contracts speak through these.
 -- Assumes nothing.
-use Rattle.std.specs.Prelude.{ℕ, List, [], ◌∷◌}
+use Rattle.std.specs.Prelude.{ℕ, List, [], ◌∷◌, Result, Ok, Err}
 use Rattle.std.proofs.Math.Option.{Option, none, some}
 use Rattle.record_format.specs.Row.{Fault, fault, fault_at}
 use Rattle.record_format.specs.declared.Refusal.{Refusal}
 use Rattle.record_format.specs.declared.Refusal.TheVariants.{Short, WrongMark, QubitCount, GateCount, BodyShort, UnknownKind, SpareByte, QubitRange, UnknownVerdict, BufferShort}
-use Rattle.record_format.specs.declared.Checked.{Checked}
-use Rattle.record_format.specs.declared.Checked.TheVariants.{Accepted}
-use Rattle.record_format.specs.declared.Written.{Written}
-use Rattle.record_format.specs.declared.Written.TheVariants.{Length}
+use Rattle.record_format.specs.declared.Head.{Head}
 use Rattle.record_format.specs.declared.Report.{Report}
-use Rattle.record_format.specs.declared.ReportRead.{ReportRead}
-use Rattle.record_format.specs.declared.ReportRead.TheVariants.{Fields}
-use Rattle.record_format.specs.declared.gate.GateCheck.{GateCheck}
-use Rattle.record_format.specs.declared.gate.GateCheck.TheVariants.{Good}
 
 -- what a call answers: its values, or why it is refused and nothing else; a fault of records, or one of another type F
 pub data Answer (F : Type 0) : Type 0 where
@@ -38,14 +31,14 @@ abbrev pub number_of : Refusal → ℕ
 number_of r = (fault_of r).number
 
 -- what check answered
-abbrev pub checked_answer : Checked → Answer Fault
-checked_answer (Accepted n g) = gives (n ∷ g ∷ [])
-checked_answer (Checked.Refused r) = refuses (fault_of r)
+abbrev pub checked_answer : Result Head Refusal → Answer Fault
+checked_answer (Ok head) = gives (head.n ∷ head.g ∷ [])
+checked_answer (Err r) = refuses (fault_of r)
 
 -- what a writer answered
-abbrev pub written_answer : Written → Answer Fault
-written_answer (Length size) = gives (size ∷ [])
-written_answer (Written.Refused r) = refuses (fault_of r)
+abbrev pub written_answer : Result ℕ Refusal → Answer Fault
+written_answer (Ok size) = gives (size ∷ [])
+written_answer (Err r) = refuses (fault_of r)
 
 -- a report's eight fields, in the record's order
 abbrev pub fields : Report → List ℕ
@@ -53,11 +46,11 @@ fields r =
     r.verdict ∷ r.first ∷ r.second ∷ r.pins ∷ r.sums ∷ r.turns ∷ r.joins ∷ r.left ∷ []
 
 -- what the report reader answered
-abbrev pub report_answer : ReportRead → Answer Fault
-report_answer (Fields r) = gives (fields r)
-report_answer (ReportRead.Refused r) = refuses (fault_of r)
+abbrev pub report_answer : Result Report Refusal → Answer Fault
+report_answer (Ok report) = gives (fields report)
+report_answer (Err r) = refuses (fault_of r)
 
 -- what a check of gates found
-abbrev pub gate_fault : GateCheck → Option Fault
-gate_fault Good = none
-gate_fault (GateCheck.Refused r) = some (fault_of r)
+abbrev pub gate_fault : Result (Unit {0}) Refusal → Option Fault
+gate_fault (Ok _) = none
+gate_fault (Err r) = some (fault_of r)

@@ -54,6 +54,14 @@ unfoldable pub gate_of : Raw → Gate
 gate_of r =
     cond (leb r.kind last_one_qubit) (one (get_or one_qubit_kinds r.kind H) r.a) (two (get_or two_qubit_kinds (r.kind - 8) SWAP) r.a r.b)
 
+-- a list of three bytes
+abbrev pub raw_of_three : List ℕ → Raw
+raw_of_three bytes = raw (get_or bytes 0 0) (get_or bytes 1 0) (get_or bytes 2 0)
+
+-- the gate that it stands for
+abbrev pub gate_of_three : List ℕ → Gate
+gate_of_three bytes = gate_of (raw_of_three bytes)
+
 -- the number of a one-qubit kind
 unfoldable pub one_qubit_kind : OneQubit → ℕ
 one_qubit_kind X = 0

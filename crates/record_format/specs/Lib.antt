@@ -4,6 +4,7 @@
 -- Inner is of the private functions alone.
 pub mod Format
 pub mod Gate
+pub mod Typed
 pub mod Row
 pub mod Reading
 pub mod Answer

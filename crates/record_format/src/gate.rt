@@ -1,32 +1,157 @@
-// One gate's three bytes: kind, a, b.
-use crate::Refusal;
+// Gates in their typed form, and as a record's three bytes: kind, a, b.
+ghost use Rattle.std.specs.Prelude.{◌≡◌};
+ghost use Rattle.record_format.specs.Gate.{gate_bytes, gate_of_three, inverse_gate, inverse_kind, one_qubit_kind, two_qubit_kind};
+ghost use Rattle.record_format.specs.Typed.{one_in, two_in, gate_in};
 
-// The kinds, by their numbers (specs/Gate.antt).
-pub const X: u8 = 0;
+// b of a gate on one qubit.
+pub const NO_QUBIT: u8 = 255;
 
-pub const Y: u8 = 1;
+// The gates on one qubit, by the numbers of their kinds.
+#[derive(Clone, Copy, Debug, PartialEq, Eq)]
+pub enum OneQubit {
+    X,
+    Y,
+    Z,
+    S,
+    SInverse,
+    T,
+    TInverse,
+    H,
+}
 
-pub const Z: u8 = 2;
+// The gates on two qubits, by the numbers of their kinds.
+#[derive(Clone, Copy, Debug, PartialEq, Eq)]
+pub enum TwoQubit {
+    Cx = 8,
+    Cz,
+    Swap,
+}
 
-pub const S: u8 = 3;
+// A gate on qubit q, or on qubits a and b (Cx: a control, b target).
+#[derive(Clone, Copy, Debug, PartialEq, Eq)]
+pub enum Gate {
+    One { kind: OneQubit, q: u8 },
+    Two { kind: TwoQubit, a: u8, b: u8 },
+}
 
-pub const S_INVERSE: u8 = 4;
+impl From<OneQubit> for u8 {
+    ghost from_gives = { λ kind k. k ≡ one_qubit_kind (one_in kind) };
 
-pub const T: u8 = 5;
+    #[tactic(auto, unfolding(crate::specs::Gate::one_qubit_kind))]
+    fn from(kind: OneQubit) -> u8 {
+        kind as u8
+    }
+}
 
-pub const T_INVERSE: u8 = 6;
+impl From<TwoQubit> for u8 {
+    ghost from_gives = { λ kind k. k ≡ two_qubit_kind (two_in kind) };
 
-pub const H: u8 = 7;
+    #[tactic(auto, unfolding(crate::specs::Gate::two_qubit_kind))]
+    fn from(kind: TwoQubit) -> u8 {
+        kind as u8
+    }
+}
 
-pub const CX: u8 = 8;
+// The gate that a record's three bytes stand for.
+impl From<[u8; 3]> for Gate {
+    ghost from_gives = { λ bytes gate. gate_in gate ≡ gate_of_three bytes };
 
-pub const CZ: u8 = 9;
+    #[tactic(auto, unfolding(crate::specs::Gate::gate_of))]
+    fn from(bytes: [u8; 3]) -> Gate {
+        let [kind, a, b] = bytes;
+        match kind {
+            0 => Gate::One {
+                kind: OneQubit::X,
+                q: a,
+            },
+            1 => Gate::One {
+                kind: OneQubit::Y,
+                q: a,
+            },
+            2 => Gate::One {
+                kind: OneQubit::Z,
+                q: a,
+            },
+            3 => Gate::One {
+                kind: OneQubit::S,
+                q: a,
+            },
+            4 => Gate::One {
+                kind: OneQubit::SInverse,
+                q: a,
+            },
+            5 => Gate::One {
+                kind: OneQubit::T,
+                q: a,
+            },
+            6 => Gate::One {
+                kind: OneQubit::TInverse,
+                q: a,
+            },
+            7 => Gate::One {
+                kind: OneQubit::H,
+                q: a,
+            },
+            8 => Gate::Two {
+                kind: TwoQubit::Cx,
+                a,
+                b,
+            },
+            9 => Gate::Two {
+                kind: TwoQubit::Cz,
+                a,
+                b,
+            },
+            _ => Gate::Two {
+                kind: TwoQubit::Swap,
+                a,
+                b,
+            },
+        }
+    }
+}
 
-pub const SWAP: u8 = 10;
+// The three bytes of a gate, as they stand in a record.
+impl From<Gate> for [u8; 3] {
+    ghost from_gives = { λ gate bytes. bytes ≡ gate_bytes (gate_in gate) };
 
-// What the check of one gate, or of several in turn, finds.
-#[derive(Clone, Copy)]
-pub enum GateCheck {
-    Good,
-    Refused(Refusal),
+    #[tactic(auto, unfolding(crate::specs::Gate::gate_bytes))]
+    fn from(gate: Gate) -> [u8; 3] {
+        match gate {
+            Gate::One { kind, q } => [u8::from(kind), q, NO_QUBIT],
+            Gate::Two { kind, a, b } => [u8::from(kind), a, b],
+        }
+    }
+}
+
+impl OneQubit {
+    // S and T exchanged for their inverses; every other gate is its own inverse.
+    #[tactic(auto, unfolding(crate::specs::Gate::inverse_kind))]
+    pub fn inverse(self) -> OneQubit
+        ensures { one_in result ≡ inverse_kind (one_in self) }
+    {
+        match self {
+            OneQubit::S => OneQubit::SInverse,
+            OneQubit::SInverse => OneQubit::S,
+            OneQubit::T => OneQubit::TInverse,
+            OneQubit::TInverse => OneQubit::T,
+            kind => kind,
+        }
+    }
+}
+
+impl Gate {
+    // The gate's inverse, on the same qubits.
+    #[tactic(auto, unfolding(crate::specs::Gate::inverse_gate))]
+    pub fn inverse(self) -> Gate
+        ensures { gate_in result ≡ inverse_gate (gate_in self) }
+    {
+        match self {
+            Gate::One { kind, q } => Gate::One {
+                kind: kind.inverse(),
+                q,
+            },
+            two => two,
+        }
+    }
 }

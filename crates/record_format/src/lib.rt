@@ -5,6 +5,9 @@
 
 pub mod gate;
 
+ghost use Rattle.std.specs.Prelude.{◌≡◌};
+ghost use Rattle.record_format.specs.Answer.{number_of};
+
 // The bytes of a record's head: mark, n, g.
 pub const HEAD_SIZE: usize = 5;
 
@@ -12,7 +15,7 @@ pub const HEAD_SIZE: usize = 5;
 pub const GATE_SIZE: usize = 3;
 
 // Why a call is turned down. specs/Answer.antt gives each case the table's number and the index of its gate.
-#[derive(Clone, Copy)]
+#[derive(Clone, Copy, Debug, PartialEq, Eq)]
 pub enum Refusal {
     // 1: fewer than 5 bytes, or than the 12 of a report
     Short,
@@ -36,22 +39,36 @@ pub enum Refusal {
     BufferShort,
 }
 
-// What check answers: the record's qubits and gates, or why it is refused.
-#[derive(Clone, Copy)]
-pub enum Checked {
-    Accepted { n: usize, g: usize },
-    Refused(Refusal),
+// The number of a refusal.
+impl From<Refusal> for u8 {
+    ghost from_gives = { λ refusal number. number ≡ number_of refusal };
+
+    fn from(refusal: Refusal) -> u8 {
+        match refusal {
+            Refusal::Short => 1,
+            Refusal::WrongMark => 2,
+            Refusal::QubitCount => 3,
+            Refusal::GateCount => 4,
+            Refusal::BodyShort => 13,
+            Refusal::UnknownKind { gate: _ } => 5,
+            Refusal::SpareByte { gate: _ } => 7,
+            Refusal::QubitRange { gate: _ } => 6,
+            Refusal::UnknownVerdict => 5,
+            Refusal::BufferShort => 11,
+        }
+    }
 }
 
-// What a writer answers: the length of the record that it wrote, or why it wrote nothing.
-#[derive(Clone, Copy)]
-pub enum Written {
-    Length(usize),
-    Refused(Refusal),
+// What the check of a record finds: its qubits and gates.
+#[derive(Clone, Copy, Debug, PartialEq, Eq)]
+pub struct Head {
+    pub n: usize,
+    pub g: usize,
 }
 
 // A report's eight fields. Verdict: 0 equal, 1 different, 2 undecided, 3 turned.
-#[derive(Clone, Copy)]
+// Stays: the verdict is a number, since the writer refuses one above 3 by number and an enum could not hold it.
+#[derive(Clone, Copy, Debug, PartialEq, Eq)]
 pub struct Report {
     pub verdict: u8,
     pub first: u16,
@@ -61,11 +78,4 @@ pub struct Report {
     pub turns: u8,
     pub joins: u8,
     pub left: u8,
-}
-
-// What the report reader answers.
-#[derive(Clone, Copy)]
-pub enum ReportRead {
-    Fields(Report),
-    Refused(Refusal),
 }

@@ -5,8 +5,7 @@ ghost use Rattle.std.specs.Prelude.{◌≡◌};
 ghost use Rattle.record_format.specs.Answer.{written_answer, report_answer};
 ghost use Rattle.record_format.specs.Report.{write_report, read_report};
 
-use record_bytes::{from_bytes, has_mark, high_byte, low_byte};
-use record_format::{Refusal, Report, ReportRead, Written};
+use record_format::{Refusal, Report};
 
 // The two bytes that a report record begins with.
 pub const REPORT_MARK: [u8; 2] = [0x51, 0x56];
@@ -18,52 +17,54 @@ pub const REPORT_SIZE: usize = 12;
 pub const LAST_VERDICT: u8 = 3;
 
 // The twelve bytes of a report at the front of the buffer: 5, then 11.
-pub fn write_report(buffer: &mut [u8], report: Report) -> Written
+#[tactic(auto, unfolding(record_format::specs::Report::write_report, record_format::specs::Writing::write, record_format::specs::Row::first))]
+pub fn write_report(buffer: &mut [u8], report: Report) -> Result<usize, Refusal>
     ensures answers { written_answer result ≡ (write_report report buffer.old).answer }
     ensures leaves { buffer.new ≡ (write_report report buffer.old).buffer }
 {
-    let verdict = report.verdict;
+    let Report {
+        verdict,
+        first,
+        second,
+        pins,
+        sums,
+        turns,
+        joins,
+        left,
+    } = report;
     if verdict > LAST_VERDICT {
-        return Written::Refused(Refusal::UnknownVerdict);
+        return Err(Refusal::UnknownVerdict);
     }
     if buffer.len() < REPORT_SIZE {
-        return Written::Refused(Refusal::BufferShort);
+        return Err(Refusal::BufferShort);
     }
-    let first = report.first;
-    let second = report.second;
-    buffer[0] = REPORT_MARK[0];
-    buffer[1] = REPORT_MARK[1];
+    buffer[..2].copy_from_slice(&REPORT_MARK);
     buffer[2] = verdict;
-    buffer[3] = low_byte(first);
-    buffer[4] = high_byte(first);
-    buffer[5] = low_byte(second);
-    buffer[6] = high_byte(second);
-    buffer[7] = report.pins;
-    buffer[8] = report.sums;
-    buffer[9] = report.turns;
-    buffer[10] = report.joins;
-    buffer[11] = report.left;
-    Written::Length(REPORT_SIZE)
+    buffer[3..5].copy_from_slice(&first.to_le_bytes());
+    buffer[5..7].copy_from_slice(&second.to_le_bytes());
+    buffer[7..REPORT_SIZE].copy_from_slice(&[pins, sums, turns, joins, left]);
+    Ok(REPORT_SIZE)
 }
 
 // The fields of the report at the start of s: 1, 2, 5.
-pub fn read_report(s: &[u8]) -> ReportRead
+#[tactic(auto, unfolding(record_format::specs::Report::read_report, record_format::specs::Row::first))]
+pub fn read_report(s: &[u8]) -> Result<Report, Refusal>
     ensures { report_answer result ≡ read_report s.now }
 {
     if s.len() < REPORT_SIZE {
-        return ReportRead::Refused(Refusal::Short);
+        return Err(Refusal::Short);
     }
-    if !has_mark(s, REPORT_MARK) {
-        return ReportRead::Refused(Refusal::WrongMark);
+    if !s.starts_with(&REPORT_MARK) {
+        return Err(Refusal::WrongMark);
     }
     let verdict = s[2];
     if verdict > LAST_VERDICT {
-        return ReportRead::Refused(Refusal::UnknownVerdict);
+        return Err(Refusal::UnknownVerdict);
     }
-    ReportRead::Fields(Report {
+    Ok(Report {
         verdict,
-        first: from_bytes(s[3], s[4]),
-        second: from_bytes(s[5], s[6]),
+        first: u16::from_le_bytes([s[3], s[4]]),
+        second: u16::from_le_bytes([s[5], s[6]]),
         pins: s[7],
         sums: s[8],
         turns: s[9],

@@ -5,13 +5,13 @@
 mod builder;
 mod inverter;
 
-ghost use Rattle.std.specs.Prelude.{◌≡◌, ◌+◌, ◌≤◌, length, take, drop, ◌∷◌, ◌++◌};
+ghost use Rattle.std.specs.Prelude.{◌≡◌, ◌+◌, ◌≤◌, length, take, drop, ◌++◌};
 ghost use Rattle.record_format.specs.Format.{head_size, gate_size};
 ghost use Rattle.record_format.specs.Writing.{head_bytes};
 
 pub use builder::{add, start};
 pub use inverter::inverse;
-use record_bytes::{high_byte, low_byte};
+use record_format::GATE_SIZE;
 use record_reading::LIST_MARK;
 
 // A record's head at the front of a buffer.
@@ -19,19 +19,15 @@ pub fn write_head(buffer: &mut [u8], n: u8, g: u16)
     requires { head_size ≤ length buffer.old }
     ensures { buffer.new ≡ head_bytes n g ++ drop head_size buffer.old }
 {
-    buffer[0] = LIST_MARK[0];
-    buffer[1] = LIST_MARK[1];
+    buffer[..2].copy_from_slice(&LIST_MARK);
     buffer[2] = n;
-    buffer[3] = low_byte(g);
-    buffer[4] = high_byte(g);
+    buffer[3..5].copy_from_slice(&g.to_le_bytes());
 }
 
 // A gate's three bytes at a place of a buffer.
-pub fn write_gate(buffer: &mut [u8], at: usize, kind: u8, a: u8, b: u8)
+pub fn write_gate(buffer: &mut [u8], at: usize, bytes: [u8; 3])
     requires { at + gate_size ≤ length buffer.old }
-    ensures { buffer.new ≡ take at buffer.old ++ kind ∷ a ∷ b ∷ drop (at + gate_size) buffer.old }
+    ensures { buffer.new ≡ take at buffer.old ++ bytes ++ drop (at + gate_size) buffer.old }
 {
-    buffer[at] = kind;
-    buffer[at + 1] = a;
-    buffer[at + 2] = b;
+    buffer[at..at + GATE_SIZE].copy_from_slice(&bytes);
 }

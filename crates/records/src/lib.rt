@@ -3,8 +3,7 @@
 // the code, its contracts and what they cite.
 #![tactic(auto)]
 
-pub use record_bytes::number;
-pub use record_format::{Checked, Refusal, Report, ReportRead, Written};
+pub use record_format::{Head, Refusal, Report};
 pub use record_reading::{check, gates};
 pub use record_report::{read_report, write_report};
 pub use record_writing::{add, inverse, start};

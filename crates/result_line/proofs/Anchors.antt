@@ -1,20 +1,20 @@
 -- Worked cases of the line, by computation.
 -- Assumes nothing.
 use mathlib.Core.Path.{◌≡◌, refl}
-use mathlib.Core.List.{[], ◌∷◌}
+use Rattle.std.specs.Prelude.{codes}
 use lib.ListN.{length}
 use Rattle.comparison_meaning.specs.Verdict.{turned, different, undecided}
 use Rattle.record_format.specs.Row.{fault, fault_at}
 use Rattle.record_format.specs.Pair.{in_first, in_second}
 use Rattle.comparison_types.specs.Call.{says, refuses}
-use Rattle.line_bytes.specs.Line.{digits, fields, refused_line}
+use Rattle.line_bytes.specs.Line.{digits, refused_line}
 use Rattle.result_line.specs.Line.{line_of}
 
--- document 01's example, since document 02's item 4: `turned 7 0 1 1 1 0 0` and a newline
+-- document 01's example, since document 02's item 4
 pub example_line :
     line_of (says (record { verdict = turned; first = 7; second = 0; pins = 1; sums = 1; turns = 1; joins = 0; left = 0 }))
-    ≡ 116 ∷ 117 ∷ 114 ∷ 110 ∷ 101 ∷ 100 ∷ 32 ∷ 55 ∷ 32 ∷ 48 ∷ 32 ∷ 49 ∷ 32 ∷ 49 ∷ 32 ∷ 49 ∷ 32 ∷ 48 ∷ 32 ∷ 48 ∷ 10 ∷ []
-unfolding digits fields
+    ≡ codes "turned 7 0 1 1 1 0 0\n"
+unfolding digits
 example_line = refl
 
 -- the line of a bad gate is that of its number, whichever list and gate it is, and so is that of a short body
@@ -23,7 +23,7 @@ pub number-alone :
     × ((line_of (refuses (in_second (fault_at 511 6))) ≡ refused_line 6) × (line_of (refuses (in_second (fault 13))) ≡ refused_line 13))
 number-alone = (refl, (refl, refl))
 
--- seven different numbers in their order: `different 0 3 12 345 6789 65535 255` and a newline
+-- seven different numbers in their order
 pub ordered_line :
     line_of
     (says
@@ -37,16 +37,8 @@ pub ordered_line :
       joins = 65535;
       left = 255;
     }))
-    ≡ 100 ∷ 105 ∷ 102 ∷ 102 ∷ 101 ∷ 114 ∷ 101 ∷ 110 ∷ 116
-    ∷ 32 ∷ 48
-    ∷ 32 ∷ 51
-    ∷ 32 ∷ 49 ∷ 50
-    ∷ 32 ∷ 51 ∷ 52 ∷ 53
-    ∷ 32 ∷ 54 ∷ 55 ∷ 56 ∷ 57
-    ∷ 32 ∷ 54 ∷ 53 ∷ 53 ∷ 51 ∷ 53
-    ∷ 32 ∷ 50 ∷ 53 ∷ 53
-    ∷ 10 ∷ []
-unfolding digits fields
+    ≡ codes "different 0 3 12 345 6789 65535 255\n"
+unfolding digits
 ordered_line = refl
 
 -- the longest line, of an undecided pair, has 42 bytes
@@ -65,5 +57,5 @@ pub longest_line :
       left = 255;
     })))
     ≡ 42
-unfolding digits fields
+unfolding digits
 longest_line = refl

@@ -4,7 +4,7 @@ use Rattle.std.specs.Prelude.{ℕ, List, [], ◌∷◌}
 use Rattle.record_format.specs.Pair.{number_in}
 use Rattle.comparison_types.specs.Call.{Said, says, refuses}
 use Rattle.line_bytes.specs.Line.{line_with, refused_line}
-use Rattle.verdict_line.specs.Word.{verdict_word}
+use Rattle.comparison_types.specs.Call.{verdict_word}
 
 -- the line of what a comparison says: the verdict, the two inputs and the five counts, or that of the refusal's number; neither the list
 -- nor the gate's index is shown

@@ -1,46 +1,26 @@
-// The line that the program `compare` prints: document 01, "Pairs to try". The verdict's word and seven numbers, or `refused` and the number,
-// as bytes at the front of a lent buffer. write_answer has no `requires`.
+// The line of what `compare` finds: document 01, "Pairs to try". The verdict's word and seven numbers.
 #![tactic(auto)]
 
-ghost use Rattle.comparison_types.specs.Call.{result_of, said_of, says};
-ghost use Rattle.line_bytes.specs.Line.{AtFront};
+ghost use Rattle.std.specs.Prelude.{◌≡◌};
+ghost use Rattle.comparison_types.specs.Call.{result_of, says};
 ghost use Rattle.result_line.specs.Line.{line_of};
-ghost use Rattle.result_line.specs.Inner.{program_line};
 
-use comparison_types::{Answer, Outcome};
-use line_bytes::{LINE_SIZE, write_refusal};
-use pair_bytes::{BYTES_FOLLOW, refused_by};
+use comparison_types::Outcome;
+use line_bytes::Line;
 use verdict_line::write_verdict;
 
 // The line of an outcome: its verdict's word, the two inputs and the five counts.
-fn write_outcome(o: Outcome, line: &mut [u8; LINE_SIZE]) -> usize
-    ensures { AtFront (line_of (says (result_of o))) line.old result line.new }
+pub fn write_outcome(o: Outcome) -> Line
+    ensures { result.bytes ≡ line_of (says (result_of o)) }
 {
     let numbers = [
         o.first,
         o.second,
-        o.pins as u16,
-        o.sums as u16,
-        o.turns as u16,
-        o.joins as u16,
-        o.left as u16,
+        u16::from(o.pins),
+        u16::from(o.sums),
+        u16::from(o.turns),
+        u16::from(o.joins),
+        u16::from(o.left),
     ];
-    let verdict = o.verdict;
-    write_verdict(verdict, &numbers, line)
-}
-
-// The line of what the comparison answered, or of number 12 where bytes follow one of the records. Returns the line's length; the bytes
-// behind it stay as they were.
-pub fn write_answer(answer: Answer, follow: bool, line: &mut [u8; LINE_SIZE]) -> usize
-    ensures { AtFront (program_line follow (said_of answer)) line.old result line.new }
-{
-    match answer {
-        Answer::Compared(outcome) => {
-            if follow {
-                return write_refusal(BYTES_FOLLOW, line);
-            }
-            write_outcome(outcome, line)
-        }
-        Answer::Refused(refusal) => write_refusal(refused_by(refusal, follow), line),
-    }
+    write_verdict(o.verdict, &numbers)
 }

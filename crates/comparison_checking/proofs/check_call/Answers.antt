@@ -3,23 +3,21 @@
 -- Assumes nothing.
 use mathlib.Core.Path.{sym, ◌∙◌}
 use mathlib.Core.Bool.{true, false}
-use Rattle.comparison_types.specs.Call.{workspace_rows}
-use Rattle.comparison_types.proofs.PairLaws.{call_refused, call_decides}
+use Rattle.std.proofs.lemmas.Result.{err_from_is_err_and}
+use Rattle.comparison_types.proofs.PairLaws.{still_refused, call_decides}
 use Rattle.comparison_checking.proofs.check_call.Goals as goal
+
+pub returns-in_err-pair-clause-fault : goal.returns-in_err-pair-clause-fault
+returns-in_err-pair-clause-fault c =
+    let p = err_from_is_err_and c.from_residual.result c.from_residual.ensures.1 in
+    rw (p.1, p.2) (still_refused _ _ _ _ c.in_err-pair.ensures.fault)
 
 pub returns-then-workspace_short-clause-fault : goal.returns-then-workspace_short-clause-fault
 returns-then-workspace_short-clause-fault c =
-    let args = c.args in
-    let decided = call_decides args.first.now args.second.now args.words args.bytes _ c.check_pair.ensures.fault c.in-Good.is in
-    decided true (sym c.if-workspace_short.true ∙ c.workspace_short.ensures)
+    let a = c.args in
+    call_decides a.first.now a.second.now a.words a.bytes c.in_ok-pair.ensures.fault true (sym c.if-workspace_short.true ∙ c.workspace_short.ensures)
 
-pub returns-in-Refused-clause-fault : goal.returns-in-Refused-clause-fault
-returns-in-Refused-clause-fault c =
-    let args = c.args in
-    call_refused args.first.now args.second.now (workspace_rows args.words args.bytes) _ c.check_pair.ensures.fault c.in-Refused.is
-
-pub returns-else-workspace_short-clause-fault : goal.returns-else-workspace_short-clause-fault
-returns-else-workspace_short-clause-fault c =
-    let args = c.args in
-    let decided = call_decides args.first.now args.second.now args.words args.bytes _ c.check_pair.ensures.fault c.in-Good.is in
-    decided false (sym c.if-workspace_short.false ∙ c.workspace_short.ensures)
+pub returns-clause-fault : goal.returns-clause-fault
+returns-clause-fault c =
+    let a = c.args in
+    call_decides a.first.now a.second.now a.words a.bytes c.in_ok-pair.ensures.fault false (sym c.if-workspace_short.false ∙ c.workspace_short.ensures)

@@ -21,8 +21,8 @@ bounded list other x y a b =
     let second = small other in
     (first.0, omega arith, omega arith)
 
-pub returns-then-n-m-clause-fault : goal.returns-then-n-m-clause-fault
-returns-then-n-m-clause-fault c = differ [] c.requires.0 c.requires.1 c.if-n-m.true
+pub returns-then-n-other-clause-fault : goal.returns-then-n-other-clause-fault
+returns-then-n-other-clause-fault c = differ [] c.requires.0 c.requires.1 c.if-n-other.true
 
 pub gate_bytes-requires : goal.gate_bytes-requires
 gate_bytes-requires c = whole_of c.requires.0
@@ -47,8 +47,8 @@ returns-then-n-h_gates-gt-MOST_VARIABLES-clause-fault c =
     let pre = c.requires in
     let in_first = h_counted pre.0 c.gate_bytes.ensures.content c.h_gates.ensures in
     let in_second = h_counted pre.1 c.gate_bytes-2.ensures.content c.h_gates-2.ensures in
-    let many : most_variables < c.args.n + (h_gates pre.0.gates + h_gates pre.1.gates) = omega arith in
-    too_many [] pre.0 pre.1 c.if-n-m.false many
+    let many : most_variables < c.args.one.n + (h_gates pre.0.gates + h_gates pre.1.gates) = omega arith in
+    too_many [] pre.0 pre.1 c.if-n-other.false many
 
 pub returns-clause-fault : goal.returns-clause-fault
 unfolding first
@@ -56,5 +56,5 @@ returns-clause-fault c =
     let pre = c.requires in
     let in_first = h_counted pre.0 c.gate_bytes.ensures.content c.h_gates.ensures in
     let in_second = h_counted pre.1 c.gate_bytes-2.ensures.content c.h_gates-2.ensures in
-    let few : c.args.n + (h_gates pre.0.gates + h_gates pre.1.gates) ≤ most_variables = omega arith in
-    sym (below_decide [] pre.0 pre.1 c.if-n-m.false few)
+    let few : c.args.one.n + (h_gates pre.0.gates + h_gates pre.1.gates) ≤ most_variables = omega arith in
+    sym (below_decide [] pre.0 pre.1 c.if-n-other.false few)

@@ -1,6 +1,7 @@
 -- `comparison_judging::blocked_input` meets its contract: the lowest variable of the set below n is its lowest qubit, and below 16, so that the shifted 1 fits.
 -- Assumes nothing.
-use mathlib.Core.Path.{◌≡◌, sym, ◌∙◌, ap}
+use mathlib.Core.Path.{◌≡◌, sym, ◌∙◌}
+use mathlib.Core.Option.{Option, some}
 use Prim.Native.Nat.{ℕ, ◌%◌, ◌^◌, ◌<◌, ◌≤◌}
 use native.Mathlib.Nat.{mod-eq_of_lt, one-mul}
 use native.Mathlib.Omega.{arith}
@@ -9,45 +10,31 @@ use Rattle.phase_sum_meaning.specs.Room.{most_variables}
 use Rattle.phase_sum_meaning.specs.Sets.{first_in, from}
 use Rattle.phase_sum_meaning.proofs.VariableLaws.{first_such_some, from-among}
 use Rattle.comparison_meaning.specs.Verdict.{blocked_input}
-use Rattle.phase_sum_types.specs.Workspace.{found_of}
-use Rattle.phase_sum_types.specs.declared.Found.{Found}
-use Rattle.phase_sum_types.specs.declared.Found.TheVariants.{Variable}
 use Rattle.comparison_types.proofs.VerdictLaws.{lowest_below}
 use Rattle.comparison_judging.proofs.blocked_input.Goals as goal
 
 -- the lowest variable found is the lowest qubit of the set
-qubit : (n s b : ℕ) (found : Found) → n ≤ 16 → b ≡ s % 2 ^ n → found_of found ≡ first_in (from 0 most_variables) b → first_in (from 0 n) s ≡ found_of found
-qubit n s b found l is first = sym ((rw is at first) ∙ lowest_below n s l)
+qubit : (n s b : ℕ) {o : Option ℕ} → n ≤ 16 → b ≡ s % 2 ^ n → o ≡ first_in (from 0 most_variables) b → first_in (from 0 n) s ≡ o
+qubit n s b l is first = sym ((rw is at first) ∙ lowest_below n s l)
 
 -- so it is below 16
-small : (n s v : ℕ) (found : Found) → n ≤ 16 → first_in (from 0 n) s ≡ found_of found → found ≡ Variable v → v < 16
-small n s v found l first is =
-    let such = first_such_some _ _ _ (first ∙ ap found_of is) in
+small : (n s : ℕ) {v : ℕ} → n ≤ 16 → first_in (from 0 n) s ≡ some v → v < 16
+small n s l first =
+    let such = first_such_some _ _ _ first in
     omega (arith, from-among 0 n such.0)
 
-pub returns-then-by : goal.returns-then-by
-unfolding blocked_input
-returns-then-by c = rw c.if-by.true
-
 pub overflow_cast-result : goal.overflow_cast-result
-overflow_cast-result c =
-    let first = qubit _ _ _ _ (omega arith) c.below.ensures c.lowest.ensures in
-    omega (arith, small _ _ _ _ (omega arith) first c.in-Variable.is)
+overflow_cast-result c = omega (arith, small _ _ (omega arith) (qubit _ _ _ (omega arith) c.below.ensures c.in-Some.ensures))
 
 pub overflow_shl-result : goal.overflow_shl-result
-overflow_shl-result c =
-    let first = qubit _ _ _ _ (omega arith) c.below.ensures c.lowest.ensures in
-    small _ _ _ _ (omega arith) first c.in-Variable.is
+overflow_shl-result c = small _ _ (omega arith) (qubit _ _ _ (omega arith) c.below.ensures c.in-Some.ensures)
 
-pub returns-in-Variable : goal.returns-in-Variable
+pub returns-in-Some : goal.returns-in-Some
 unfolding blocked_input
-returns-in-Variable c =
-    let first = qubit _ _ _ _ (omega arith) c.below.ensures c.lowest.ensures in
-    rw (c.if-by.false, first, c.in-Variable.is, one-mul)
-    (mod-eq_of_lt (pow-lt (small _ _ _ _ (omega arith) first c.in-Variable.is)))
+returns-in-Some c =
+    let first = qubit _ _ _ (omega arith) c.below.ensures c.in-Some.ensures in
+    rw (c.if-by.false, first, one-mul) (mod-eq_of_lt (pow-lt (small _ _ (omega arith) first)))
 
-pub returns-in-Nothing : goal.returns-in-Nothing
+pub returns-in-None : goal.returns-in-None
 unfolding blocked_input
-returns-in-Nothing c =
-    let first = qubit _ _ _ _ (omega arith) c.below.ensures c.lowest.ensures in
-    rw (c.if-by.false, first, c.in-Nothing.is)
+returns-in-None c = rw (c.if-by.false, qubit _ _ _ (omega arith) c.below.ensures c.in-None.ensures)

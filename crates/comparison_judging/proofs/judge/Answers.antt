@@ -6,8 +6,8 @@ use mathlib.Core.Bool.{Bool}
 use native.Mathlib.Omega.{arith}
 use lib.ListN.{length}
 use lib.Dec.{eqb}
-use mathlib.Core.List.{[]}
-use Rattle.phase_sum_types.specs.Workspace.{set_of, slices, members}
+use Rattle.std.specs.Prelude.{None}
+use Rattle.phase_sum_types.specs.Workspace.{set_of, members}
 use Rattle.phase_sum_types.specs.declared.Set.{Set}
 use Rattle.phase_sum_types.proofs.TwoWords.{pair_below}
 use Rattle.comparison_meaning.specs.Verdict.{judge, searched}
@@ -19,18 +19,18 @@ none_left : (live : Set) (b : Bool) → live.low < 2 ^ 64 → live.high < 2 ^ 64
 unfolding set_of
 none_left live b low high is = members_empty (set_of live) (pair_below live.low live.high low high) ∙ sym is
 
-pub returns-then-end : goal.returns-then-end
+pub returns-in-Some : goal.returns-in-Some
 unfolding judge
-returns-then-end c ws fs = rw (c.if-end.true, ← c.blocked_input-input.ensures) (c.outcome.ensures (slices ws fs [] []) c.args.end.by)
+returns-in-Some c l same = rw (c.in-Some.is, ← c.blocked_input-input.ensures) (c.outcome.ensures l None)
 
 pub returns-then-is_empty : goal.returns-then-is_empty
 unfolding judge searched
-returns-then-is_empty c ws fs =
-    let none = none_left c.args.end.sum.live _ (omega arith) (omega arith) c.is_empty.ensures in
-    rw (c.if-end.false, none, c.if-is_empty.true) (c.searched.ensures ws fs c.args.end.by)
+returns-then-is_empty c l same =
+    let none = none_left c.args.end.reached.sum.live _ (omega arith) (omega arith) c.is_empty.ensures in
+    rw (c.in_default.is, none, c.if-is_empty.true) (c.searched.ensures l same)
 
 pub returns : goal.returns
 unfolding judge
-returns c ws fs =
-    let some = none_left c.args.end.sum.live _ (omega arith) (omega arith) c.is_empty.ensures in
-    rw (c.if-end.false, some, c.if-is_empty.false) (c.outcome-2.ensures (slices ws fs [] []) c.args.end.by)
+returns c l same =
+    let some = none_left c.args.end.reached.sum.live _ (omega arith) (omega arith) c.is_empty.ensures in
+    rw (c.in_default.is, some, c.if-is_empty.false) (c.outcome-2.ensures l None)

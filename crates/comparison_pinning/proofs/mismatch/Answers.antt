@@ -4,4 +4,4 @@ use Rattle.comparison_types.proofs.PinLaws.{with_input}
 use Rattle.comparison_pinning.proofs.mismatch.Goals as goal
 
 pub returns : goal.returns
-returns c = rw (c.exclusive_or.ensures, c.single.ensures, ← c.wire-w.ensures) (with_input c.wire-w.result c.args.q)
+returns c = rw (c.bitxor.ensures, c.single.ensures, ← c.get-w.ensures) (with_input c.get-w.result c.args.q)

@@ -4,4 +4,4 @@ use Rattle.comparison_types.proofs.SearchLaws.{differs_from}
 use Rattle.comparison_searching.proofs.differs.Goals as goal
 
 pub returns : goal.returns
-returns c = differs_from _ _ _ c.phase_at.ensures
+returns c = rw c.constant.ensures (differs_from _ _ _ c.at.ensures)

@@ -3,48 +3,33 @@
 -- Assumes nothing.
 use mathlib.Core.Path.{ap, ◌∙◌}
 use lib.ListN.{length}
-use lib.Seq.{length-take-le}
 use Rattle.comparison_types.proofs.PairLaws.{whole_of}
-use Rattle.dense_meaning.specs.Limits.{buffer_size}
 use Rattle.dense_types.specs.Call.{found, says}
-use Rattle.dense.proofs.Calling.{block, shown_said, let_pass, clauses}
+use Rattle.dense.proofs.Calling.{block, shown_said, clauses}
 use Rattle.dense.proofs.compare.Goals as goal
 
 -- what the checks let pass
 pub gate_bytes-requires : goal.gate_bytes-requires
-gate_bytes-requires c =
-    let a = c.args in
-    let pass = let_pass a.first.now a.second.now (length a.buffer.now) c.check_call.ensures.found c.in-Good.is in
-    whole_of pass.list
+gate_bytes-requires c = whole_of c.in_ok-block.ensures.found.list
 
-pub gate_bytes-requires-in-Good : goal.gate_bytes-requires-in-Good
-gate_bytes-requires-in-Good c =
-    let a = c.args in
-    let pass = let_pass a.first.now a.second.now (length a.buffer.now) c.check_call.ensures.found c.in-Good.is in
-    whole_of pass.other
+pub gate_bytes-requires-2 : goal.gate_bytes-requires-2
+gate_bytes-requires-2 c = whole_of c.in_ok-block.ensures.found.other
 
--- the gate bytes make a block, and the numbers that are lent on are enough
-pub judge-judged-requires : goal.judge-judged-requires
-judge-judged-requires c =
-    let a = c.args in
-    let pass = let_pass a.first.now a.second.now (length a.buffer.now) c.check_call.ensures.found c.in-Good.is in (
-      block pass c.gate_bytes.ensures.content c.gate_bytes-in-Good.ensures.content,
-      length-take-le buffer_size a.buffer.now pass.room,
-    )
+-- the gate bytes make a block
+pub invariant_of-lists : goal.invariant_of-lists
+invariant_of-lists c = record { block = block c.in_ok-block.ensures.found c.gate_bytes.ensures.content c.gate_bytes-2.ensures.content }
 
-pub returns-in-Good : goal.returns-in-Good
-returns-in-Good c =
+pub returns : goal.returns
+returns c =
     let a = c.args in
-    let k = length a.buffer.now in
-    let pass = let_pass a.first.now a.second.now k c.check_call.ensures.found c.in-Good.is in
     let said =
-    ap says (c.outcome_of.ensures ∙ ap found c.judge-judged.ensures.judged)
-    ∙ shown_said pass c.gate_bytes.ensures.content c.gate_bytes-in-Good.ensures.content c.check_call.ensures.fault c.in-Good.is
+    ap says (c.outcome_of.ensures ∙ ap found c.judge.ensures.judged)
+    ∙ shown_said c.in_ok-block.ensures.found c.gate_bytes.ensures.content c.gate_bytes-2.ensures.content c.in_ok-block.ensures.fault
     in
-    let all = clauses a.first.now a.second.now k _ said in
+    let all = clauses a.first.now a.second.now (length a.buffer.now) _ said in
     record {
       steps = said;
-      kept = rw c.judge-judged.ensures.zero;
+      kept = rw c.judge.ensures.zero;
       exact = all.0;
       sound = all.1.0;
       first = all.1.1.0;

@@ -2,17 +2,18 @@
 -- the call's own rows decide.
 -- Assumes nothing.
 use mathlib.Core.Path.{sym, ◌∙◌}
-use Rattle.comparison_types.proofs.PairLaws.{call_refused, call_rest}
+use Rattle.std.proofs.lemmas.Result.{err_from_is_err_and}
+use Rattle.comparison_types.proofs.PairLaws.{still_refused, rest_decides}
 use Rattle.dense_types.specs.Call.{block_rows}
 use Rattle.dense_checking.proofs.check_call.Goals as goal
 
-pub returns-in-Refused-clause-fault : goal.returns-in-Refused-clause-fault
-returns-in-Refused-clause-fault c =
-    let a = c.args in
-    call_refused a.first.now a.second.now (block_rows a.first.now a.second.now a.numbers) _ c.check_pair.ensures.fault c.in-Refused.is
+pub returns-in_err-pair-clause-fault : goal.returns-in_err-pair-clause-fault
+returns-in_err-pair-clause-fault c =
+    let p = err_from_is_err_and c.from_residual.result c.from_residual.ensures.1 in
+    rw (p.1, p.2) (still_refused _ _ _ _ c.in_err-pair.ensures.fault)
 
-pub returns-in-Good-clause-fault : goal.returns-in-Good-clause-fault
-returns-in-Good-clause-fault c =
+pub returns-clause-fault : goal.returns-clause-fault
+returns-clause-fault c =
     let a = c.args in
     c.check_block.ensures.fault
-    ∙ sym (call_rest a.first.now a.second.now (block_rows a.first.now a.second.now a.numbers) _ c.check_pair.ensures.fault c.in-Good.is)
+    ∙ sym (rest_decides a.first.now a.second.now (block_rows a.first.now a.second.now a.numbers) c.in_ok-pair.ensures.fault)

@@ -1,73 +1,69 @@
 -- `dense_gates::apply_one` meets its contract: the zeros of the matrix say which pass it is.
 -- Assumes nothing.
-use mathlib.Core.Path.{sym, ◌∙◌}
+use mathlib.Core.Path.{sym, ap, ◌∙◌}
+use Rattle.record_format.specs.Typed.{one_in}
+use Rattle.amplitude.specs.Matrix.{O, ω}
 use Rattle.dense_columns.specs.Columns.{amplitude_at}
-use Rattle.dense_gates.specs.Gates.{gate_of_kind}
-use Rattle.dense_gates.proofs.Matrices.{zero_entry, not_zero, power_small, diagonal, crossing, full, diagonal_turns, crossing_crosses, full_combines}
+use Rattle.dense_gates.specs.Gates.{entry_of}
+use Rattle.dense_gates.proofs.Matrices.{diagonal, crossing, full, some_power, matrix_combines, diagonal_turns, crossing_crosses}
 use Rattle.dense_gates.proofs.apply_one.Goals as goal
+use Rattle.dense_gates.proofs.apply_one.Goals.{in_default-via-in-None+in_default, in_default-via-in-Some+in-None+in_default, in_default-via-in-Some+in-Some+in-Some+in_default, in_default-via-in-Some+in-Some+in_default}
 
--- where the second entry is zero the matrix is diagonal
-pub turn_where-requires : goal.turn_where-requires
-turn_where-requires c =
-    let gate = gate_of_kind c.args.kind in
-    let last = c.matrix_entry-d.ensures in
-    let m = diagonal gate (sym c.matrix_entry-b.ensures.entry ∙ zero_entry _ c.if-b-eq-ZERO.true) in
-    (c.requires.1, c.requires.1, c.requires.2, power_small _ _ last.entry m.last last.small, c.requires.3, c.requires.4)
+-- no other matrix is in the table
+pub unreachable-requires : goal.unreachable-requires
+unreachable-requires c =
+    let u = one_in c.args.kind in
+    elim c.in_default.branch [
+      | in_default-via-in-None+in_default w ↦
+          (diagonal u (sym c.matrix_entry-b.ensures ∙ ap entry_of w.in_default.is-1)).last (sym c.matrix_entry-d.ensures ∙ ap entry_of w.in_default.is-3)
+      | in_default-via-in-Some+in-None+in_default w ↦
+          (crossing u (sym c.matrix_entry-a.ensures ∙ ap entry_of w.in_default.is-0)).lower (sym c.matrix_entry-c.ensures ∙ ap entry_of w.in_default.is-2)
+      | in_default-via-in-Some+in-Some+in-Some+in_default w ↦
+          (full u (some_power _ (ap entry_of (sym w.in_default.is-0) ∙ c.matrix_entry-a.ensures))
+          (some_power _ (ap entry_of (sym w.in_default.is-1) ∙ c.matrix_entry-b.ensures))).last (sym c.matrix_entry-d.ensures ∙ ap entry_of w.in_default.is-3)
+      | in_default-via-in-Some+in-Some+in_default w ↦
+          (full u (some_power _ (ap entry_of (sym w.in_default.is-0) ∙ c.matrix_entry-a.ensures))
+          (some_power _ (ap entry_of (sym w.in_default.is-1) ∙ c.matrix_entry-b.ensures))).lower (sym c.matrix_entry-c.ensures ∙ ap entry_of w.in_default.is-2)
+    ]
 
-pub returns-then-b-eq-ZERO : goal.returns-then-b-eq-ZERO
-returns-then-b-eq-ZERO c w l =
-    let gate = gate_of_kind c.args.kind in
-    let m = diagonal gate (sym c.matrix_entry-b.ensures.entry ∙ zero_entry _ c.if-b-eq-ZERO.true) in
+pub returns-in_default-None-default-Some : goal.returns-in_default-None-default-Some
+returns-in_default-None-default-Some c w l =
+    let u = one_in c.args.kind in
+    let arm = c.in_default-None-default-Some in
+    let m = diagonal u (sym c.matrix_entry-b.ensures ∙ ap entry_of arm.is-1) in
     c.turn_where.ensures w l
-    ∙ diagonal_turns gate c.args.q (amplitude_at c.args.column.now) w _ m c.matrix_entry-d.ensures.entry
+    ∙ diagonal_turns c.args.q (amplitude_at c.args.column.now) w arm.d
+    ∙ matrix_combines c.args.q (amplitude_at c.args.column.now) w u (ω 0) O O (ω arm.d)
+    (record {
+      first = sym m.first;
+      upper = sym m.upper;
+      lower = sym m.lower;
+      last = ap entry_of (sym arm.is-3) ∙ c.matrix_entry-d.ensures;
+    })
 
--- where the first is zero there are zeros in the diagonal
-pub cross_along-requires : goal.cross_along-requires
-cross_along-requires c =
-    let gate = gate_of_kind c.args.kind in
-    let upper = c.matrix_entry-b.ensures in
-    let lower = c.matrix_entry-c.ensures in
-    let m = crossing gate (sym c.matrix_entry-a.ensures.entry ∙ zero_entry _ c.if-a-eq-ZERO.true) in (
-      c.requires.1,
-      c.requires.2,
-      power_small _ _ upper.entry m.upper upper.small,
-      power_small _ _ lower.entry m.lower lower.small,
-      c.requires.3,
-      c.requires.4,
-    )
-
-pub returns-then-a-eq-ZERO : goal.returns-then-a-eq-ZERO
-returns-then-a-eq-ZERO c w l =
-    let gate = gate_of_kind c.args.kind in
-    let m = crossing gate (sym c.matrix_entry-a.ensures.entry ∙ zero_entry _ c.if-a-eq-ZERO.true) in
+pub returns-in-None-Some-Some-default : goal.returns-in-None-Some-Some-default
+returns-in-None-Some-Some-default c w l =
+    let u = one_in c.args.kind in
+    let arm = c.in-None-Some-Some-default in
+    let m = crossing u (sym c.matrix_entry-a.ensures ∙ ap entry_of arm.is-0) in
     c.cross_along.ensures w l
-    ∙ crossing_crosses gate c.args.q (amplitude_at c.args.column.now) w _ _ m c.matrix_entry-b.ensures.entry c.matrix_entry-c.ensures.entry
+    ∙ crossing_crosses c.args.q (amplitude_at c.args.column.now) w arm.b arm.c
+    ∙ matrix_combines c.args.q (amplitude_at c.args.column.now) w u O (ω arm.b) (ω arm.c) O
+    (record {
+      first = sym m.first;
+      upper = ap entry_of (sym arm.is-1) ∙ c.matrix_entry-b.ensures;
+      lower = ap entry_of (sym arm.is-2) ∙ c.matrix_entry-c.ensures;
+      last = sym m.last;
+    })
 
--- and where neither is there are none
-pub combine_along-requires : goal.combine_along-requires
-combine_along-requires c =
-    let gate = gate_of_kind c.args.kind in
-    let first = c.matrix_entry-a.ensures in
-    let upper = c.matrix_entry-b.ensures in
-    let lower = c.matrix_entry-c.ensures in
-    let last = c.matrix_entry-d.ensures in
-    let m = full gate (not_zero _ _ first.entry c.if-a-eq-ZERO.false) (not_zero _ _ upper.entry c.if-b-eq-ZERO.false) in (
-      c.requires.1,
-      c.requires.2,
-      power_small _ _ first.entry m.first first.small,
-      power_small _ _ upper.entry m.upper upper.small,
-      power_small _ _ lower.entry m.lower lower.small,
-      power_small _ _ last.entry m.last last.small,
-      c.requires.3,
-      c.requires.4,
-    )
-
-pub returns : goal.returns
-returns c w l =
-    let gate = gate_of_kind c.args.kind in
-    let first = c.matrix_entry-a.ensures in
-    let upper = c.matrix_entry-b.ensures in
-    let m = full gate (not_zero _ _ first.entry c.if-a-eq-ZERO.false) (not_zero _ _ upper.entry c.if-b-eq-ZERO.false) in
-    c.combine_along.ensures w l
-    ∙ full_combines gate c.args.q (amplitude_at c.args.column.now) w _ _ _ _ m first.entry upper.entry c.matrix_entry-c.ensures.entry
-    c.matrix_entry-d.ensures.entry
+pub returns-in-Some-Some-Some-Some : goal.returns-in-Some-Some-Some-Some
+returns-in-Some-Some-Some-Some c w l =
+    let arm = c.in-Some-Some-Some-Some in
+    c.pass.ensures w l
+    ∙ matrix_combines c.args.q (amplitude_at c.args.column.now) w (one_in c.args.kind) (ω arm.a) (ω arm.b) (ω arm.c) (ω arm.d)
+    (record {
+      first = ap entry_of (sym arm.is-0) ∙ c.matrix_entry-a.ensures;
+      upper = ap entry_of (sym arm.is-1) ∙ c.matrix_entry-b.ensures;
+      lower = ap entry_of (sym arm.is-2) ∙ c.matrix_entry-c.ensures;
+      last = ap entry_of (sym arm.is-3) ∙ c.matrix_entry-d.ensures;
+    })

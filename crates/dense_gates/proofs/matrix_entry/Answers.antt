@@ -1,9 +1,14 @@
 -- `dense_gates::matrix_entry` meets its contract: every entry of the table is that of the published matrix.
 -- Assumes nothing.
-use Rattle.dense_gates.proofs.Table.{table_is}
+use mathlib.Core.Path.{◌∙◌}
+use native.Mathlib.Omega.{arith}
+use Rattle.record_format.specs.Typed.{one_in}
+use Rattle.dense_gates.proofs.Table.{table_is, kind_small}
 use Rattle.dense_gates.proofs.matrix_entry.Goals as goal
+
+pub bounds-from : goal.bounds-from
+bounds-from c = omega (arith, kind_small (one_in c.args.kind))
 
 pub returns : goal.returns
 returns c =
-    let all = table_is c.args.kind c.args.row c.args.column c.requires.0 c.requires.1 c.requires.2 in
-    record { entry = all.0; small = all.1 }
+    rw (c.from-2.ensures ∙ c.from.ensures) (table_is (one_in c.args.kind) c.args.row c.args.column c.requires.0 c.requires.1)

@@ -1,31 +1,24 @@
--- `dense_judging::carries` meets its contract: the test passed at every place so far.
+-- `dense_judging::carries` meets its contract: the test is made at every place.
 -- Assumes nothing.
-use mathlib.Core.Path.{◌≡◌, sym}
-use mathlib.Core.Bool.{false}
-use Prim.Native.Nat.{◌^◌}
+use mathlib.Core.Path.{refl, ap, ◌∙◌}
+use mathlib.Core.Bool.{Bool}
+use Prim.Native.Nat.{ℕ}
 use native.Mathlib.Omega.{arith}
+use borrow.Author.Rules.{rules}
+use borrow.Author.Tests.{tests}
+use Rattle.std.proofs.lemmas.Iterator.{YieldsList-from_range}
+use Rattle.std.proofs.lemmas.Iterator.Search.{all_from_yields_List}
 use Rattle.amplitude.specs.Number.{ω^}
-use Rattle.amplitude.specs.Testing.{eqω, carries_state}
-use Rattle.amplitude.proofs.Testing.{below_pass, below_fail}
+use Rattle.amplitude.specs.Testing.{eqω, below, carries_state}
 use Rattle.dense_columns.specs.Columns.{amplitude_at}
+use Rattle.dense_judging.proofs.Ranges.{below_range}
 use Rattle.dense_judging.proofs.carries.Goals as goal
-
-pub returns-then-not-same : goal.returns-then-not-same
-unfolding carries_state
-returns-then-not-same c =
-    let a = c.args in
-    let first = amplitude_at a.first.now in
-    let second = amplitude_at a.second.now in
-    let w = c.loop-w.w in
-    let failed : eqω (ω^ a.j (first w)) (second w) ≡ false =
-    rw (c.times_power-x.ensures, c.load.ensures, c.load-in-loop-w.ensures) at (sym c.if-not-same.ensures) in
-    sym (below_fail (2 ^ a.n) (λ u. eqω (ω^ a.j (first u)) (second u)) w (omega (arith, c.power-end.ensures)) failed)
 
 pub returns : goal.returns
 unfolding carries_state
 returns c =
-    let a = c.args in
-    let first = amplitude_at a.first.now in
-    let second = amplitude_at a.second.now in
-    sym (below_pass (2 ^ a.n) (λ u. eqω (ω^ a.j (first u)) (second u))
-    (λ w l. c.loop-w.invariant.1 w (omega (arith, c.power-end.ensures))))
+    let test : ℕ → Bool = λ w. eqω (ω^ c.args.j (amplitude_at c.args.first.now w)) (amplitude_at c.args.second.now w) in
+    all_from_yields_List test _ _ c.all.result c.all.ensures.ran (YieldsList-from_range 0 c.power.result c.power.result refl (omega arith))
+    (λ x b q k. search (rules, tests))
+    ∙ below_range c.power.result test
+    ∙ ap (λ m. below m test) c.power.ensures

@@ -10,5 +10,8 @@ slice_bounds-carries-end c = simp length-take (omega arith)
 
 pub carries-requires : goal.carries-requires
 carries-requires c =
-    let room = few_places c.args.n c.requires.0 in
-    (c.requires.0, c.requires.1, simp length-take (omega arith), simp (length-take, length-drop) (omega arith), c.requires.3)
+    let places = few_places c.args.n c.requires.0 in (
+      record { few = c.requires.0; places = simp length-take (omega arith) },
+      record { few = c.requires.0; places = simp (length-take, length-drop) (omega arith) },
+      c.requires.1,
+    )

@@ -1,35 +1,40 @@
--- `dense_running::run_gates` meets its contract. The loop's invariant: the gates from place i on are still to run.
+-- `dense_running::run_gates` meets its contract: the gates from the place that is reached on are still to run.
 -- Assumes nothing.
-use mathlib.Core.Path.{◌∙◌}
+use mathlib.Core.Path.{refl}
+use mathlib.Core.List.{[]}
 use Prim.Native.Nat.{◌+◌}
-use native.Mathlib.Omega.{arith}
-use lib.ListN.{drop, drop_of_length-le}
-use Rattle.record_format.specs.Reading.{raws, gates_in}
-use Rattle.record_format.proofs.Parts.{gate_at, gates_from_lem}
+use lib.ListN.{get_or, drop}
+use Rattle.std.proofs.lemmas.List.{at_drop_more, at_drop_all}
+use Rattle.record_format.specs.Gate.{gate_of_three}
+use Rattle.record_format.specs.Reading.{gates_in}
+use Rattle.record_format.proofs.Chunks.{gates_of, gates_of_chunks}
 use Rattle.amplitude.specs.Circuit.{run}
 use Rattle.dense_columns.specs.Columns.{amplitude_at}
 use Rattle.dense_running.proofs.Stepwise.{ready_small, one_run, all_run}
 use Rattle.dense_running.proofs.run_gates.Goals as goal
 
-pub run_gate-requires : goal.run_gate-requires
-run_gate-requires c =
-    let l = c.loop-i in
-    let t = rw (gates_from_lem c.args.gates.now l.i (omega arith)) at l.invariant.3 in
-    (t.ready.within.0, c.requires.1, omega (arith, l.invariant.2), ready_small c.args.n _ l.column t.ready)
+pub loop-bytes-init : goal.loop-bytes-init
+loop-bytes-init c = rw (c.as_chunks.ensures.front, gates_of_chunks c.args.gates.now) (record { ready = c.requires.ready; reaches = λ w b. refl })
 
-pub loop-i-preserved : goal.loop-i-preserved
-loop-i-preserved c =
-    let l = c.loop-i in
-    let bytes = c.args.gates.now in (
-      omega arith,
-      omega arith,
-      c.run_gate.auto.column ∙ l.invariant.2,
-      one_run c.args.n (run (gates_in bytes) (amplitude_at c.args.column.now)) (gate_at bytes l.i) (gates_in (drop (l.i + 3) bytes))
-          l.column c.run_gate.new.column (rw (gates_from_lem bytes l.i (omega arith)) at l.invariant.3) c.run_gate.ensures,
-    )
+pub run_gate-requires-clause-within : goal.run_gate-requires-clause-within
+run_gate-requires-clause-within c =
+    let l = c.loop-bytes in
+    let t = rw (at_drop_more gates_of c.as_chunks.result.0.now l.bytes-index [] c.loop-bytes-test.true) at l.invariant in
+    rw c.from.ensures t.ready.within.0
+
+pub run_gate-requires-clause-small : goal.run_gate-requires-clause-small
+run_gate-requires-clause-small c = ready_small c.args.n _ c.loop-bytes.column c.loop-bytes.invariant.ready
+
+pub loop-bytes-preserved : goal.loop-bytes-preserved
+loop-bytes-preserved c =
+    let l = c.loop-bytes in
+    let chunks = c.as_chunks.result.0.now in
+    let ran = rw c.from.ensures at c.run_gate.ensures in
+    one_run c.args.n (run (gates_in c.args.gates.now) (amplitude_at c.args.column.now)) (gate_of_three (get_or chunks l.bytes-index []))
+    (gates_of (drop (l.bytes-index + 1) chunks)) l.column c.run_gate.new.column
+    (rw (at_drop_more gates_of chunks l.bytes-index [] c.loop-bytes-test.true) at l.invariant) ran
 
 pub returns : goal.returns
-unfolding raws
 returns c =
-    let l = c.loop-i in
-    all_run c.args.n _ l.column (rw (drop_of_length-le c.args.gates.now c.loop-i-test.false) at l.invariant.3)
+    let l = c.loop-bytes in
+    all_run c.args.n _ l.column (rw (at_drop_all gates_of c.as_chunks.result.0.now l.bytes-index c.loop-bytes-test.false) at l.invariant)

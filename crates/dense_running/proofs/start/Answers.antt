@@ -6,4 +6,4 @@ use Rattle.dense_running.proofs.start.Goals as goal
 
 pub returns : goal.returns
 returns c = rw (c.store.ensures, c.root_two_power.ensures, c.clear.ensures)
-    (start_holds c.args.n c.args.v c.args.k (length c.args.column.now) c.requires.1 c.requires.2)
+    (start_holds c.args.n c.args.v c.args.k (length c.args.column.now) c.requires.input c.requires.room.places)

@@ -1,29 +1,41 @@
--- `joining::join_in_space` meets its contract: reading both lists and the test on their qubits turn down by their rows, and behind them
--- `write_joined` writes.
+-- Reading both lists and the test on their qubits turn down by their rows, and behind them `write_joined` writes.
 -- Assumes nothing.
-use native.Mathlib.Omega.{arith}
-use mathlib.Core.Path.{refl}
-use Rattle.joining_types.specs.Inner.{Holds}
-use Rattle.joining_types.specs.declared.Joined.{Joined}
-use Rattle.joining_types.specs.declared.Refusal.{Refusal}
-use Rattle.joining_types.proofs.Writing.{space_unread, space_many, space_few, space_clauses}
+use Rattle.std.proofs.Common.{Err, refl, arith}
+use Rattle.std.proofs.lemmas.Result.{err_from_is_err_and}
+use Rattle.joining_types.specs.declared.Refusal.TheVariants.{TooManyQubits}
+use Rattle.joining_types.proofs.Writing.{part_of_held, space_unread, space_many, space_few, space_clauses}
 use Rattle.joining.proofs.join_in_space.Goals as goal
 
-pub returns-then-n-m-gt-MOST_QUBITS : goal.returns-then-n-m-gt-MOST_QUBITS
-returns-then-n-m-gt-MOST_QUBITS c = let a = c.args in
-    let (first-list, second-list) = (let it : Holds c.in-Read.n c.in-Read.g c.args.first.now
-    × Holds c.in-Read.m c.in-Read.h c.args.second.now = rw c.in-Read.is at c.check_both.ensures in it) in
-    let all = space_clauses a.first.now a.second.now a.buffer.now a.buffer.now (Joined.Refused Refusal.TooManyQubits) _ refl refl (space_many _ _ _ _ _ _ _ first-list second-list (omega arith)) in
+pub returns-in_err-x : goal.returns-in_err-x
+returns-in_err-x c =
+    let a = c.args in
+    let p = err_from_is_err_and c.from_residual.result c.from_residual.ensures.1 in
+    let all =
+    space_clauses a.first.now a.second.now a.buffer.now a.buffer.now c.from_residual.result _ (rw (p.1, p.2) refl) refl
+    (space_unread a.first.now a.second.now a.buffer.now _ c.in_err-x.ensures) in
     record { answers = all.0; leaves = all.1.0; composed = all.1.1 }
 
-pub returns-in-Refused : goal.returns-in-Refused
-returns-in-Refused c = let a = c.args in
-    let all = space_clauses a.first.now a.second.now a.buffer.now a.buffer.now (Joined.Refused c.in-Refused.refusal) _ refl refl (space_unread _ _ _ _ _ c.check_both.ensures c.in-Refused.is) in
+pub returns-then-x-y-gt-MOST_QUBITS : goal.returns-then-x-y-gt-MOST_QUBITS
+returns-then-x-y-gt-MOST_QUBITS c =
+    let a = c.args in
+    let all =
+    space_clauses a.first.now a.second.now a.buffer.now a.buffer.now (Err TooManyQubits) _ refl refl
+    (space_many a.first.now a.second.now a.buffer.now _ _ c.in_ok-x.ensures.0 c.in_ok-x.ensures.1 (omega (arith, c.if-x-y-gt-MOST_QUBITS.true))) in
     record { answers = all.0; leaves = all.1.0; composed = all.1.1 }
 
-pub returns-else-n-m-gt-MOST_QUBITS : goal.returns-else-n-m-gt-MOST_QUBITS
-returns-else-n-m-gt-MOST_QUBITS c = let (first-list, second-list) = (let it : Holds c.in-Read.n c.in-Read.g c.args.first.now
-    × Holds c.in-Read.m c.in-Read.h c.args.second.now = rw c.in-Read.is at c.check_both.ensures in it) in
-    let all = space_clauses c.args.first.now c.args.second.now c.args.buffer.now c.write_joined.new.buffer c.write_joined.result _ c.write_joined.ensures.answers c.write_joined.ensures.leaves
-    (space_few _ _ _ _ _ _ _ first-list second-list (omega (arith, c.if-n-m-gt-MOST_QUBITS.false))) in
+pub write_joined-requires : goal.write_joined-requires
+write_joined-requires c =
+    let one = part_of_held c.args.first.now _ _ c.in_ok-x.ensures.0 c.gate_bytes-first_gates.ensures.content in
+    let other = part_of_held c.args.second.now _ _ c.in_ok-x.ensures.1 c.gate_bytes-second_gates.ensures.content in
+    (one.0, other.0, omega (arith, c.if-x-y-gt-MOST_QUBITS.false), c.in_ok-x.ensures.0.few_qubits)
+
+pub returns : goal.returns
+returns c =
+    let a = c.args in
+    let one = part_of_held a.first.now _ _ c.in_ok-x.ensures.0 c.gate_bytes-first_gates.ensures.content in
+    let other = part_of_held a.second.now _ _ c.in_ok-x.ensures.1 c.gate_bytes-second_gates.ensures.content in
+    let written = rw (one.1, other.1) at c.write_joined.ensures in
+    let all =
+    space_clauses a.first.now a.second.now a.buffer.now c.write_joined.new.buffer c.write_joined.result _ written.answers written.leaves
+    (space_few a.first.now a.second.now a.buffer.now _ _ c.in_ok-x.ensures.0 c.in_ok-x.ensures.1 (omega (arith, c.if-x-y-gt-MOST_QUBITS.false))) in
     record { answers = all.0; leaves = all.1.0; composed = all.1.1 }

@@ -1,24 +1,41 @@
--- `joining_writing::write_gates` meets its contract. The loop's invariant: the first i bytes, whole gates, stand in their place with their qubits
--- further on, and the rest of the buffer is as it was. The measure is how many bytes are left.
+-- A turn stores the first gate that is left, its qubits further on.
 -- Assumes nothing.
-use native.Mathlib.Omega.{arith}
-use mathlib.Core.Path.{refl, ◌∙◌}
-use Rattle.joining_types.proofs.Shifting.{filled_none, filled_more, within_at}
+use Rattle.std.proofs.Common.{◌≡◌, ◌+◌, ◌-◌, ◌*◌, [], ◌∷◌, length, get_or, drop, refl, ap, ◌∙◌, add-zero, arith}
+use Rattle.std.proofs.lemmas.List.{at_drop_more, at_drop_all, length-drop}
+use Rattle.record_format.specs.Format.{most_qubits}
+use Rattle.record_format.specs.Gate.{gate_of_three, gate_bytes, body_bytes, shift_gate, shift_list}
+use Rattle.record_format.specs.Reading.{gates_in}
+use Rattle.record_format.proofs.Chunks.{gates_of, gates_of_chunks, length_gates_of, length_shifted_bytes}
+use Rattle.record_format.proofs.GateLaws.{length_shift}
+use Rattle.record_format.proofs.Storing.{none_left}
+use Rattle.record_format.proofs.Writers.{gate_stored}
 use Rattle.joining_writing.proofs.write_gates.Goals as goal
 
 pub loop-i-init : goal.loop-i-init
-loop-i-init c = let a = c.args in
-    (refl, omega arith, refl, filled_none a.at a.shift a.gates.now a.buffer.now)
-
-pub write_shifted-requires : goal.write_shifted-requires
-write_shifted-requires c = (
-  omega arith,
-  c.requires.2,
-  within_at _ _ _ c.loop-i.invariant.0 (omega arith) c.requires.3,
-)
+loop-i-init c = rw (c.as_chunks.ensures.front, gates_of_chunks, add-zero) (record { within = c.requires.2.within; left = refl })
 
 pub loop-i-preserved : goal.loop-i-preserved
-loop-i-preserved c = let a = c.args in
-    let inv = c.loop-i.invariant in
-    let step = filled_more a.at a.shift a.gates.now a.buffer.now c.loop-i.i inv.0 (omega arith) c.requires.0 in
-    (omega arith, omega arith, c.write_shifted.auto.buffer ∙ inv.2, rw (c.write_shifted.ensures, inv.3) step)
+unfolding shift_list
+loop-i-preserved c =
+    let chunks = c.as_chunks.result.0.now in
+    let i = c.loop-i.i in
+    let gate = gate_of_three (get_or chunks i []) in
+    let rest = gates_of (drop (i + 1) chunks) in
+    let next : gates_of (drop i chunks) ≡ gate ∷ rest = at_drop_more gates_of chunks i [] c.loop-i-test.true in
+    let bytes : c.into.result ≡ gate_bytes (shift_gate c.args.shift gate) = cc in
+    let many : length (shift_list c.args.shift rest) ≡ length chunks - (i + 1) = simp (length_shift, length_gates_of, length-drop) in
+    let stored =
+    gate_stored c.loop-i.buffer c.into.result (c.args.at + 3 * i) (shift_gate c.args.shift gate) (shift_list c.args.shift rest) bytes
+    (omega (arith, c.as_chunks.ensures.front_len)) in
+    let at : c.args.at + 3 * (i + 1) ≡ c.args.at + 3 * i + 3 = omega arith in
+    record {
+      within = (rw next at c.loop-i.invariant.within).1;
+      left = rw (at, c.write_gate.ensures) (stored ∙ rw next at c.loop-i.invariant.left);
+    }
+
+pub returns : goal.returns
+unfolding body_bytes shift_list
+returns c =
+    let none = at_drop_all gates_of c.as_chunks.result.0.now c.loop-i.i c.loop-i-test.false in
+    let left = rw (none, none_left) at c.loop-i.invariant.left in
+    rw (← length_shifted_bytes c.args.shift c.args.gates.now c.requires.2.whole) left

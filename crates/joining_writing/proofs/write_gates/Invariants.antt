@@ -1,14 +1,17 @@
--- `joining_writing::write_gates` meets its contract. The loop's invariant: the first i bytes, whole gates, stand in their place with their qubits
--- further on, and the rest of the buffer is as it was. The measure is how many bytes are left.
+-- With what is left of the gates stored too, the buffer would be as the function leaves it.
 -- Assumes nothing.
-use mathlib.Core.Path.{◌≡◌}
-use Prim.Native.Nat.{◌-◌, ◌%◌, ◌≤◌}
-use lib.ListN.{length}
-use Rattle.joining_types.proofs.Shifting.{filled}
+use Rattle.std.proofs.Common.{◌≡◌, ◌+◌, ◌*◌, drop}
+use Rattle.record_format.specs.Format.{most_qubits}
+use Rattle.record_format.specs.Gate.{AllWithin, body_bytes, shift_list}
+use Rattle.record_format.specs.Reading.{gates_in}
+use Rattle.record_format.proofs.Chunks.{gates_of}
+use Rattle.record_format.proofs.Storing.{with_left}
 use Rattle.joining_writing.proofs.write_gates.Given as goal
 
 abbrev pub invariant-loop-i : goal.invariant-loop-i
-invariant-loop-i l = (l.i % 3 ≡ 0) × (l.i ≤ length l.gates) × (length l.buffer ≡ length l.initial.buffer) × (l.buffer ≡ filled l.at l.shift l.gates l.initial.buffer l.i)
-
-abbrev pub decreases-loop-i : goal.decreases-loop-i
-decreases-loop-i l = length l.gates - l.i
+invariant-loop-i l =
+    let rest = gates_of (drop l.i l.bytes-items) in
+    record {
+      within : AllWithin most_qubits rest;
+      left : with_left l.buffer (l.at + 3 * l.i) (body_bytes (shift_list l.shift rest)) ≡ with_left l.initial.buffer l.at (body_bytes (shift_list l.shift (gates_in l.gates)));
+    }

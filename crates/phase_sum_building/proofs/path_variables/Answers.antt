@@ -7,20 +7,16 @@ use Rattle.phase_sum_types.proofs.Windows.{window_empty, window_more, members_wi
 use Rattle.phase_sum_building.proofs.path_variables.Goals as goal
 
 pub loop-v-init : goal.loop-v-init
-loop-v-init c = (omega arith, omega arith, rw c.empty-set.ensures (window_empty c.args.n))
+loop-v-init c = rw c.empty-set.ensures (window_empty c.args.n)
 
 pub loop-v-preserved : goal.loop-v-preserved
 loop-v-preserved c =
-    let loop = c.loop-v in (
-      omega arith,
-      omega arith,
-      window_more c.args.n loop.v (set_of loop.set) (set_of c.union-set.result) loop.invariant.0
-          (rw c.single.ensures at c.union-set.ensures)
-          loop.invariant.2,
-    )
+    let loop = c.loop-v in
+    window_more c.args.n loop.v (set_of loop.set) (set_of c.bitor-set.result) (omega arith) (rw c.single.ensures at c.bitor-set.ensures)
+    loop.invariant
 
 pub returns : goal.returns
 returns c =
     let a = c.args in
     let done : c.loop-v.v ≡ a.next = omega arith in
-    members_window a.n a.next (set_of c.loop-v.set) (omega arith) (omega arith) (rw done at c.loop-v.invariant.2)
+    members_window a.n a.next (set_of c.loop-v.set) (omega arith) (omega arith) (rw done at c.loop-v.invariant)

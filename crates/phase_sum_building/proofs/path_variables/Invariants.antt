@@ -1,13 +1,9 @@
 -- `phase_sum_building::path_variables` meets its contract. The loop's invariant: the set holds the variables from n to below v
--- and no others. The measure is how many variables are left.
+-- and no others.
 -- Assumes nothing.
-use Prim.Native.Nat.{◌-◌, ◌≤◌}
 use Rattle.phase_sum_types.specs.Workspace.{set_of}
 use Rattle.phase_sum_types.proofs.Windows.{Window}
 use Rattle.phase_sum_building.proofs.path_variables.Given as goal
 
 abbrev pub invariant-loop-v : goal.invariant-loop-v
-invariant-loop-v l = (l.n ≤ l.v) × (l.v ≤ l.next) × Window l.n l.v (set_of l.set)
-
-abbrev pub decreases-loop-v : goal.decreases-loop-v
-decreases-loop-v l = l.next - l.v
+invariant-loop-v l = Window l.n l.v (set_of l.set)

@@ -6,4 +6,4 @@ use Rattle.phase_sum_moving.proofs.both.Goals as goal
 
 pub returns : goal.returns
 unfolding ◌⊕◌ xor
-returns c = rw c.exclusive_or.ensures
+returns c = rw c.bitxor.ensures

@@ -1,9 +1,8 @@
 -- `phase_sum_passing::replace_unmerged` meets its contract. The loop's invariant: the constant is that of the first i terms,
--- these have been sent, and the others are as they were. The measure is how many terms are left.
+-- these have been sent, and the others are as they were.
 -- Assumes nothing.
 use mathlib.Core.Path.{◌≡◌}
-use Prim.Native.Nat.{ℕ, ◌-◌, ◌%◌, ◌≤◌}
-use lib.ListN.{length}
+use Prim.Native.Nat.{ℕ, ◌%◌}
 use Rattle.phase_sum_meaning.specs.Parity.{Parity, of, replace_in}
 use Rattle.phase_sum_meaning.specs.Phase.{rebuild}
 use Rattle.phase_sum_meaning.specs.Room.{words_each}
@@ -19,11 +18,5 @@ abbrev pub replaced : ℕ → ParityWord → ℕ → Parity
 replaced z p u = replace_in z (parity_of p) (of u)
 
 abbrev pub invariant-loop-i : goal.invariant-loop-i
-invariant-loop-i l = (l.i ≤ l.count)
-    × (length l.sets ≡ length l.initial.sets)
-    × (length l.coeffs ≡ length l.initial.coeffs)
-    × ((k : ℕ) → k % 8 ≡ l.initial.constant → l.constant ≡ (rebuild (replaced l.z l.p) k (held l.i (sets_in words_each l.initial.sets) l.initial.coeffs)).constant)
+invariant-loop-i l = ((k : ℕ) → k % 8 ≡ l.initial.constant → l.constant ≡ (rebuild (replaced l.z l.p) k (held l.i (sets_in words_each l.initial.sets) l.initial.coeffs)).constant)
     × Passed (sent_to (replaced l.z l.p)) l.i (sets_in words_each l.initial.sets) l.initial.coeffs (sets_in words_each l.sets) l.coeffs
-
-abbrev pub decreases-loop-i : goal.decreases-loop-i
-decreases-loop-i l = l.count - l.i

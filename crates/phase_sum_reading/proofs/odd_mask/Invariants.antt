@@ -1,8 +1,8 @@
 -- `phase_sum_reading::odd_mask` meets its contract. The loop's invariant: the mask holds the variables that are in terms of odd
--- coefficient among the first i. The measure is how many terms are left.
+-- coefficient among the first i.
 -- Assumes nothing.
 use mathlib.Core.Path.{◌≡◌}
-use Prim.Native.Nat.{ℕ, ◌-◌, ◌≤◌}
+use Prim.Native.Nat.{ℕ}
 use Rattle.amplitude.specs.Bits.{bit}
 use Rattle.phase_sum_meaning.specs.Phase.{in_odd}
 use Rattle.phase_sum_meaning.specs.Room.{words_each}
@@ -11,7 +11,4 @@ use Rattle.phase_sum_types.specs.Workspace.{set_of, held}
 use Rattle.phase_sum_reading.proofs.odd_mask.Given as goal
 
 abbrev pub invariant-loop-i : goal.invariant-loop-i
-invariant-loop-i l = (l.i ≤ l.count) × ((v : ℕ) → bit v (set_of l.mask) ≡ in_odd v (held l.i (sets_in words_each l.sets) l.coeffs))
-
-abbrev pub decreases-loop-i : goal.decreases-loop-i
-decreases-loop-i l = l.count - l.i
+invariant-loop-i l = (v : ℕ) → bit v (set_of l.mask) ≡ in_odd v (held l.i (sets_in words_each l.terms-inside.sets.now) l.terms-inside.coeffs.now)

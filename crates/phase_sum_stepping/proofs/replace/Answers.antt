@@ -14,7 +14,7 @@ returns c =
     let a = c.args in
     let stands = c.requires.1 in
     let p = parity_of a.p in
-    let l = lent a.ws.now a.fs.now a.sets.now a.coeffs.now in
+    let l = lent a.wires.now a.sets.now a.coeffs.now in
     let sent = c.replace_unmerged-constant.ensures in
     became (replace a.z p (sum_of a.sum l)) _ l _
     (rebuilt (λ u. replace_in a.z p (of u)) a.sum.phase stands.sets stands.coeffs sent.constant sent.terms

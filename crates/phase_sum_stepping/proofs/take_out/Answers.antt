@@ -13,14 +13,14 @@ use Rattle.phase_sum_stepping.proofs.take_out.Goals as goal
 
 pub returns : goal.returns
 unfolding take_out
-returns c ws fs =
+returns c wires =
     let a = c.args in
     let pre = c.requires in
     let ss = sets_at a.sets.now in
     let cs = a.coeffs.now in
     let phase = a.sum.phase in
     let n = phase.count in
-    let l = slices ws fs ss cs in
+    let l = slices wires ss cs in
     let room = all_inside a.sets.now {m = n} (omega (arith, pre.1, pre.2)) in
     became (take_out a.y (sum_of a.sum l)) _ l _
     (rebuilt (λ u. of (out_of a.y u)) phase room pre.2

@@ -21,17 +21,17 @@ canonical-requires c =
 
 pub returns : goal.returns
 unfolding turned take_out
-returns c ws fs =
+returns c wires =
     let a = c.args in
     let pre = c.requires in
     let phase = a.sum.phase in
-    let l = slices ws fs (sets_at a.sets.now) a.coeffs.now in
+    let l = slices wires (sets_at a.sets.now) a.coeffs.now in
     let room = all_inside a.sets.now {m = phase.count} (omega (arith, pre.1, pre.2)) in
     became (turned a.c (set_of a.l) (take_out a.y (sum_of a.sum l))) _ l _
     (turned_out a.y a.c (set_of a.l) phase room (omega (arith, pre.2))
-    (rw (← c.turn_constant.ensures) c.add.ensures)
+    (rw (← c.turn-constant.ensures.constant) c.add.ensures)
     c.take_out_unmerged.ensures
-    (rw c.turn_coeff.ensures at c.append-more.ensures)
+    (rw c.turn-constant.ensures.coeff at c.append-more.ensures)
     c.canonical.ensures)
     refl
     (rw c.without.ensures (members-without (set_of a.sum.live) a.y))

@@ -1,27 +1,18 @@
--- `record_reading::check` meets its contract: a refused head refuses the record, and behind an accepted one the check of the
--- gates decides.
+-- A refused head refuses the record, and behind an accepted one the check of the gates decides.
 -- Assumes nothing.
-use mathlib.Core.Path.{◌≡◌, sym, ap, ◌∙◌}
-use mathlib.Core.Option.{none}
-use mathlib.Core.List.{[], ◌∷◌}
-use native.Mathlib.Omega.{arith}
-use Rattle.record_format.specs.Answer.{gives, checked_answer, gate_fault}
-use Rattle.record_format.specs.Inner.{head_answer}
-use Rattle.record_format.proofs.Reading.{head_gives, head_refuses, check_decides}
+use Rattle.std.proofs.lemmas.Result.{err_from_is_err_and}
+use Rattle.record_format.proofs.Reading.{head_refuses, check_decides}
 use Rattle.record_reading.proofs.check.Goals as goal
 
-pub check_gates-requires : goal.check_gates-requires
-check_gates-requires c = let head = head_gives c.args.s.now _ _ ((let it : gives (c.in-Accepted.n ∷ c.in-Accepted.g ∷ []) ≡ head_answer c.args.s.now = sym (ap checked_answer c.in-Accepted.is) ∙ c.check_head.ensures in it)) in
-    omega (arith, head)
+pub returns-in_err-head-clause-answers : goal.returns-in_err-head-clause-answers
+returns-in_err-head-clause-answers c =
+    let p = err_from_is_err_and c.from_residual.result c.from_residual.ensures.1 in
+    rw (p.1, p.2) (head_refuses c.args.s.now _ c.in_err-head.ensures.answers)
 
-pub returns-in-Refused : goal.returns-in-Refused
-returns-in-Refused c = head_refuses c.args.s.now _
-    (sym (ap checked_answer c.in-Refused.is) ∙ c.check_head.ensures)
+pub returns-in_err-check_gates-clause-answers : goal.returns-in_err-check_gates-clause-answers
+returns-in_err-check_gates-clause-answers c =
+    let p = err_from_is_err_and c.from_residual-in_err-check_gates.result c.from_residual-in_err-check_gates.ensures.1 in
+    rw (p.1, p.2) (check_decides c.args.s.now _ _ _ c.in_ok-head.ensures.answers (rw c.gate_bytes.ensures.content at c.in_err-check_gates.ensures))
 
-pub returns-in-Good : goal.returns-in-Good
-returns-in-Good c = check_decides c.args.s.now _ _ none ((let it : gives (c.in-Accepted.n ∷ c.in-Accepted.g ∷ []) ≡ head_answer c.args.s.now = sym (ap checked_answer c.in-Accepted.is) ∙ c.check_head.ensures in it))
-    (sym (ap gate_fault c.in-Good.is) ∙ c.check_gates.ensures)
-
-pub returns-in-Refused-check_gates : goal.returns-in-Refused-check_gates
-returns-in-Refused-check_gates c = check_decides c.args.s.now _ _ _ ((let it : gives (c.in-Accepted.n ∷ c.in-Accepted.g ∷ []) ≡ head_answer c.args.s.now = sym (ap checked_answer c.in-Accepted.is) ∙ c.check_head.ensures in it))
-    (sym (ap gate_fault c.in-Refused-check_gates.is) ∙ c.check_gates.ensures)
+pub returns-clause-answers : goal.returns-clause-answers
+returns-clause-answers c = check_decides c.args.s.now _ _ _ c.in_ok-head.ensures.answers (rw c.gate_bytes.ensures.content at c.in_ok-check_gates.ensures)

@@ -9,67 +9,43 @@ use Rattle.comparison_types.proofs.ClauseLaws.{pair_passes, pass_level, pass_fit
 use Rattle.comparison.proofs.comparing.compare_read.Goals as goal
 
 pub gate_bytes-requires : goal.gate_bytes-requires
-gate_bytes-requires c =
-    let a = c.args in
-    let checked = c.check_call.ensures in
-    let pass = pair_passes a.first.now a.second.now a.sets.now a.coeffs.now checked.fault checked.found c.in-Good.is in
-    whole_of pass.first
+gate_bytes-requires c = whole_of c.in_ok-n.ensures.found.first
 
-pub gate_bytes-requires-in-Good : goal.gate_bytes-requires-in-Good
-gate_bytes-requires-in-Good c =
-    let a = c.args in
-    let checked = c.check_call.ensures in
-    let pass = pair_passes a.first.now a.second.now a.sets.now a.coeffs.now checked.fault checked.found c.in-Good.is in
-    whole_of pass.second
+pub gate_bytes-requires-2 : goal.gate_bytes-requires-2
+gate_bytes-requires-2 c = whole_of c.in_ok-n.ensures.found.second
 
 pub slice_bounds-decide-end : goal.slice_bounds-decide-end
-slice_bounds-decide-end c =
-    let a = c.args in
-    let checked = c.check_call.ensures in
-    let pass = pair_passes a.first.now a.second.now a.sets.now a.coeffs.now checked.fault checked.found c.in-Good.is in
-    pass.sets
+slice_bounds-decide-end c = (pair_passes _ _ _ c.args.coeffs.now c.in_ok-n.ensures.fault c.in_ok-n.ensures.found).sets
 
-pub slice_bounds-decide-end-in-Good : goal.slice_bounds-decide-end-in-Good
-slice_bounds-decide-end-in-Good c =
-    let a = c.args in
-    let checked = c.check_call.ensures in
-    let pass = pair_passes a.first.now a.second.now a.sets.now a.coeffs.now checked.fault checked.found c.in-Good.is in
-    sym (length-take-le set_words a.sets.now pass.sets)
+pub slice_bounds-decide-end-2 : goal.slice_bounds-decide-end-2
+slice_bounds-decide-end-2 c =
+    let pass = pair_passes _ _ c.args.sets.now c.args.coeffs.now c.in_ok-n.ensures.fault c.in_ok-n.ensures.found in
+    sym (length-take-le set_words c.args.sets.now pass.sets)
 
-pub slice_bounds-decide-end-in-Good-2 : goal.slice_bounds-decide-end-in-Good-2
-slice_bounds-decide-end-in-Good-2 c =
-    let a = c.args in
-    let checked = c.check_call.ensures in
-    let pass = pair_passes a.first.now a.second.now a.sets.now a.coeffs.now checked.fault checked.found c.in-Good.is in
-    pass.coeffs
+pub slice_bounds-decide-end-3 : goal.slice_bounds-decide-end-3
+slice_bounds-decide-end-3 c = (pair_passes _ _ c.args.sets.now _ c.in_ok-n.ensures.fault c.in_ok-n.ensures.found).coeffs
 
-pub slice_bounds-decide-end-in-Good-3 : goal.slice_bounds-decide-end-in-Good-3
-slice_bounds-decide-end-in-Good-3 c =
-    let a = c.args in
-    let checked = c.check_call.ensures in
-    let pass = pair_passes a.first.now a.second.now a.sets.now a.coeffs.now checked.fault checked.found c.in-Good.is in
-    sym (length-take-le places a.coeffs.now pass.coeffs)
+pub slice_bounds-decide-end-4 : goal.slice_bounds-decide-end-4
+slice_bounds-decide-end-4 c =
+    let pass = pair_passes _ _ c.args.sets.now c.args.coeffs.now c.in_ok-n.ensures.fault c.in_ok-n.ensures.found in
+    sym (length-take-le places c.args.coeffs.now pass.coeffs)
 
 pub decide-outcome-requires : goal.decide-outcome-requires
 decide-outcome-requires c =
-    let a = c.args in
-    let checked = c.check_call.ensures in
-    let pass = pair_passes a.first.now a.second.now a.sets.now a.coeffs.now checked.fault checked.found c.in-Good.is in
+    let pass = pair_passes _ _ c.args.sets.now c.args.coeffs.now c.in_ok-n.ensures.fault c.in_ok-n.ensures.found in
     let first = c.gate_bytes.ensures.content in
-    let second = c.gate_bytes-in-Good.ensures.content in
+    let second = c.gate_bytes-2.ensures.content in
     (pass_fits pass first second, pass_level pass first second)
 
-pub returns-in-Good : goal.returns-in-Good
-returns-in-Good c =
-    let a = c.args in
-    let checked = c.check_call.ensures in
-    let pass = pair_passes a.first.now a.second.now a.sets.now a.coeffs.now checked.fault checked.found c.in-Good.is in
-    let decides = c.decide-outcome.ensures in
-    record {
-      steps = pass_said pass c.gate_bytes.ensures.content c.gate_bytes-in-Good.ensures.content decides.steps;
-      kept = (
-        rw (decides.zero.0, length-take-le set_words a.sets.now pass.sets),
-        rw (decides.zero.1, length-take-le places a.coeffs.now pass.coeffs),
-      );
-      found = (c.in-Good.n, pass.first, pass.second);
-    }
+pub returns-clause-steps : goal.returns-clause-steps
+returns-clause-steps c =
+    let pass = pair_passes _ _ c.args.sets.now c.args.coeffs.now c.in_ok-n.ensures.fault c.in_ok-n.ensures.found in
+    pass_said pass c.gate_bytes.ensures.content c.gate_bytes-2.ensures.content c.decide-outcome.ensures.steps
+
+pub returns-clause-kept : goal.returns-clause-kept
+returns-clause-kept c =
+    let pass = pair_passes _ _ c.args.sets.now c.args.coeffs.now c.in_ok-n.ensures.fault c.in_ok-n.ensures.found in
+    let zero = c.decide-outcome.ensures.zero in (
+      rw (zero.0, length-take-le set_words c.args.sets.now pass.sets),
+      rw (zero.1, length-take-le places c.args.coeffs.now pass.coeffs),
+    )

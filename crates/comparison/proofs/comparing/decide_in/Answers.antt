@@ -1,10 +1,12 @@
 -- `comparison::comparing::decide_in` meets its contract. The built sum is pinned, reduced and judged, which is the comparison by its definition.
 -- Assumes nothing.
-use mathlib.Core.Path.{sym, ◌∙◌}
+use mathlib.Core.Path.{ap, ◌∙◌}
 use native.Mathlib.Omega.{arith}
 use lib.ListN.{length}
 use Rattle.record_format.specs.Reading.{gates_in}
-use Rattle.phase_sum_types.proofs.TwoWords.{level_places, words_long}
+use Rattle.phase_sum_types.specs.Workspace.{lent}
+use Rattle.phase_sum_types.proofs.TwoWords.{words_long}
+use Rattle.phase_sum_types.proofs.Running.{built_wires}
 use Rattle.comparison_types.proofs.ClauseLaws.{built_sized, decided}
 use Rattle.comparison.proofs.comparing.decide_in.Goals as goal
 
@@ -12,22 +14,18 @@ pub pin-pinned-requires : goal.pin-pinned-requires
 pin-pinned-requires c =
     let a = c.args in
     let fits = c.requires.0 in
-    let level = c.requires.1 in
-    let kept = c.build-sum.auto in
-    let places = level_places a.ws.now a.fs.now level.0 in
-    let sized =
-    built_sized (gates_in a.first.now) (gates_in a.second.now) c.build-sum.ensures
-    (words_long _ _ _ _ kept.ws kept.fs kept.sets kept.coeffs) (omega (arith, places, fits.few)) (sym places)
-    fits.sets fits.coeffs
-    in
-    (sized, (omega (arith, level.0, kept.ws, kept.fs), omega (arith, level.1, kept.sets, kept.coeffs)))
+    let built = c.build-sum in
+    let many = ap (λ t. length t.wires) built.ensures.sum ∙ built_wires (length a.wires.now) _ in
+    let long = words_long _ _ many built.auto.sets built.auto.coeffs in
+    let sized = built_sized (gates_in a.first.now) (gates_in a.second.now) built.ensures long fits.few fits.sets fits.coeffs in
+    (sized, omega (arith, c.requires.1, built.auto.sets, built.auto.coeffs))
 
 pub returns : goal.returns
 returns c =
     let a = c.args in
-    let level = c.requires.1.0 in
     let built = c.build-sum in
-    let places = level_places a.ws.now a.fs.now level in
-    let same = level_places built.new.ws built.new.fs (omega (arith, level, built.auto.ws, built.auto.fs)) ∙ built.auto.fs in
-    decided (length a.fs.now) _ (gates_in a.first.now) (gates_in a.second.now) (rw places at built.ensures.sum) same
-    c.pin-pinned.ensures.end c.reduce_end-end.ensures.end (c.judge.ensures _ _)
+    let left = c.reduce_end-end.new in
+    let n = length a.wires.now in
+    let many = ap (λ t. length t.wires) built.ensures.sum ∙ built_wires n _ in
+    decided n _ (gates_in a.first.now) (gates_in a.second.now) built.ensures.sum many c.pin-pinned.ensures.end c.reduce_end-end.ensures.end
+    (rw c.len-n.ensures at (c.judge.ensures (lent left.wires left.sets left.coeffs) c.new-terms.ensures))

@@ -1,38 +1,39 @@
--- `record_writing::builder::add` meets its contract: the record's check, the test for a full record and the gate's check each turn down
--- by their own row, and behind them `append` writes.
+-- The record's check, the test for a full record, the gate's check and the test on the buffer's length each turn down by their own row, and
+-- behind them a new head and the gate's bytes behind the old ones are the record with one gate more.
 -- Assumes nothing.
-use native.Mathlib.Omega.{arith}
-use mathlib.Core.Path.{refl}
+use Rattle.std.proofs.Common.{refl}
+use Rattle.std.proofs.lemmas.Result.{err_from_is_err_and}
 use Rattle.record_format.specs.Gate.{raw}
-use Rattle.record_format.proofs.Reading.{Accepts, accepts}
-use Rattle.record_format.proofs.Writers.{add_unread, add_full, add_bad, add_good}
+use Rattle.record_format.proofs.Reading.{accepts}
+use Rattle.record_format.proofs.Writers.{add_unread, add_full, add_bad, add_short, add_stored}
 use Rattle.record_writing.proofs.builder.add.Goals as goal
 
+pub returns-in_err-n : goal.returns-in_err-n
+returns-in_err-n c =
+    let p = err_from_is_err_and c.from_residual.result c.from_residual.ensures.1 in
+    rw (p.1, p.2, add_unread (raw c.args.kind c.args.a c.args.b) _ _ c.in_err-n.ensures.answers) (record { answers = refl; leaves = refl })
+
 pub returns-then-g-eq-MOST_GATES : goal.returns-then-g-eq-MOST_GATES
-returns-then-g-eq-MOST_GATES c = rw (add_full ((raw c.args.kind c.args.a c.args.b)) _ _ _ ((let it : Accepts c.args.buffer.now c.in-Accepted.n c.in-Accepted.g = accepts _ _ _ _ c.check.ensures c.in-Accepted.is in it)) c.if-g-eq-MOST_GATES.true) (record {
-  answers = refl;
-  leaves = refl;
-})
+returns-then-g-eq-MOST_GATES c =
+    let there = accepts _ _ _ c.in_ok-n.ensures.answers in
+    rw (add_full (raw c.args.kind c.args.a c.args.b) _ _ _ there c.if-g-eq-MOST_GATES.true) (record { answers = refl; leaves = refl })
 
-pub append-requires : goal.append-requires
-append-requires c = let there = (let it : Accepts c.args.buffer.now c.in-Accepted.n c.in-Accepted.g = accepts _ _ _ _ c.check.ensures c.in-Accepted.is in it) in
-    omega (arith, c.if-g-eq-MOST_GATES.false)
+pub returns-in_err-check_gate : goal.returns-in_err-check_gate
+returns-in_err-check_gate c =
+    let there = accepts _ _ _ c.in_ok-n.ensures.answers in
+    let q = c.from_residual-in_err-check_gate in
+    let p = err_from_is_err_and q.result q.ensures.1 in
+    rw (p.1, p.2, add_bad (raw c.args.kind c.args.a c.args.b) _ _ _ _ there c.if-g-eq-MOST_GATES.false c.in_err-check_gate.ensures)
+    (record { answers = refl; leaves = refl })
 
-pub returns-in-Refused : goal.returns-in-Refused
-returns-in-Refused c = rw (add_unread ((raw c.args.kind c.args.a c.args.b)) _ _ _ c.check.ensures c.in-Refused.is) (record {
-  answers = refl;
-  leaves = refl;
-})
+pub returns-then-buffer-end : goal.returns-then-buffer-end
+returns-then-buffer-end c =
+    let there = accepts _ _ _ c.in_ok-n.ensures.answers in
+    rw (add_short (raw c.args.kind c.args.a c.args.b) _ _ _ there c.if-g-eq-MOST_GATES.false c.in_ok-check_gate.ensures c.if-buffer-end.true)
+    (record { answers = refl; leaves = refl })
 
-pub returns-in-Refused-check_gate : goal.returns-in-Refused-check_gate
-returns-in-Refused-check_gate c = rw (add_bad ((raw c.args.kind c.args.a c.args.b)) _ _ _ _ _ ((let it : Accepts c.args.buffer.now c.in-Accepted.n c.in-Accepted.g = accepts _ _ _ _ c.check.ensures c.in-Accepted.is in it)) c.if-g-eq-MOST_GATES.false
-    c.check_gate.ensures c.in-Refused-check_gate.is)
-    (record {
-      answers = refl;
-      leaves = refl;
-    })
-
-pub returns-in-Good : goal.returns-in-Good
-returns-in-Good c = rw (add_good ((raw c.args.kind c.args.a c.args.b)) _ _ _ _ ((let it : Accepts c.args.buffer.now c.in-Accepted.n c.in-Accepted.g = accepts _ _ _ _ c.check.ensures c.in-Accepted.is in it)) c.if-g-eq-MOST_GATES.false
-    c.check_gate.ensures c.in-Good.is)
-    c.append.ensures
+pub returns : goal.returns
+returns c =
+    let there = accepts _ _ _ c.in_ok-n.ensures.answers in
+    rw (add_stored (raw c.args.kind c.args.a c.args.b) _ _ _ there c.if-g-eq-MOST_GATES.false c.in_ok-check_gate.ensures _ c.if-buffer-end.false c.write_head.ensures)
+    (record { answers = refl; leaves = c.write_gate.ensures })

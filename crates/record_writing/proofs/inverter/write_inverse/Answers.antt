@@ -1,18 +1,42 @@
--- `record_writing::inverter::write_inverse` meets its contract. The loop's invariant: the first i gates stand inverted at the other end,
--- and the rest of the buffer is as it was. The measure is how many gates are left.
+-- A turn stores the inverse of the last gate that is left.
 -- Assumes nothing.
-use native.Mathlib.Omega.{arith}
-use mathlib.Core.Path.{refl, ◌∙◌}
-use Rattle.record_format.proofs.Storing.{inverted_none, inverted_more}
+use Rattle.std.proofs.Common.{◌≡◌, ◌+◌, ◌∷◌, length, ap, ◌∙◌, arith}
+use Rattle.std.proofs.lemmas.List.{nil_from_length, length_push}
+use Rattle.record_format.specs.Gate.{gate_of_three, inverse_gate, inverse_list, gate_bytes, body_bytes}
+use Rattle.record_format.specs.Reading.{size, gates_in}
+use Rattle.record_format.proofs.Chunks.{gates_of, gates_of_chunks, inverses_of_last, length_inverses_of, length_inverse_bytes}
+use Rattle.record_format.proofs.Storing.{none_left}
+use Rattle.record_format.proofs.Writers.{gate_stored}
 use Rattle.record_writing.proofs.inverter.write_inverse.Goals as goal
 
 pub loop-i-init : goal.loop-i-init
-loop-i-init c = let a = c.args in
-    (omega arith, refl, inverted_none a.s.now a.g a.buffer.now)
+loop-i-init c =
+    let begin = c.into_iter-i-iterator.result in
+    let none : begin.count ≡ 0 = cc in
+    let all : begin.iter.iter.rest.now ≡ c.as_chunks.result.0.now = cc c.iter.ensures.rest in
+    let gates : gates_of begin.iter.iter.rest.now ≡ gates_in c.args.gates.now = cc (c.as_chunks.ensures.front, gates_of_chunks c.args.gates.now, ap gates_of all) in
+    record { fits = omega (arith, ap length all, c.as_chunks.ensures.front_len); left = rw (none, gates) }
 
 pub loop-i-preserved : goal.loop-i-preserved
-loop-i-preserved c = let a = c.args in
-    let inv = c.loop-i.invariant in
-    let step = inverted_more a.s.now a.g a.buffer.now c.loop-i.i c.loop-i-test.true
-    c.requires.0 c.requires.1 in
-    (omega arith, c.write_gate.auto.buffer ∙ inv.1, rw (c.write_gate.ensures, c.inverse_kind.ensures, inv.2) step)
+loop-i-preserved c =
+    let (rest, here, next, _) = c.in-Some.ensures.steps in
+    let chunks = c.next.new.self.iter.iter.rest.now in
+    let gate = inverse_gate (gate_of_three c.in-Some.bytes.now) in
+    let gates = inverse_list (gates_of chunks) in
+    let more : inverse_list (gates_of c.loop-i.i-iterator.iter.iter.rest.now) ≡ gate ∷ gates =
+    ap (λ cs. inverse_list (gates_of cs)) rest ∙ inverses_of_last chunks c.in-Some.bytes.now in
+    let bytes : c.into.result ≡ gate_bytes gate = cc in
+    let longer = simp length_push at (ap length rest) in
+    let at : size (c.loop-i.i-iterator.count + 1) ≡ size c.loop-i.i-iterator.count + 3 = omega arith in
+    let stored = gate_stored c.loop-i.buffer c.into.result (size c.loop-i.i-iterator.count) gate gates bytes (omega (arith, length_inverses_of chunks)) in
+    record {
+      fits = omega arith;
+      left = rw (next, at, c.write_gate.ensures, here) (stored ∙ rw more at c.loop-i.invariant.left);
+    }
+
+pub returns : goal.returns
+unfolding inverse_list body_bytes
+returns c =
+    let none = nil_from_length _ c.in-None.ensures.steps.0.0 in
+    let left = rw (none, none_left) at c.loop-i.invariant.left in
+    rw (← length_inverse_bytes c.args.gates.now c.requires.0) left

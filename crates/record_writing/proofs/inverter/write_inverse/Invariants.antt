@@ -1,14 +1,16 @@
--- `record_writing::inverter::write_inverse` meets its contract. The loop's invariant: the first i gates stand inverted at the other end,
--- and the rest of the buffer is as it was. The measure is how many gates are left.
+-- With what is left of the gates stored too, the buffer would be as the function leaves it.
 -- Assumes nothing.
-use mathlib.Core.Path.{◌≡◌}
-use Prim.Native.Nat.{◌-◌, ◌≤◌}
-use lib.ListN.{length}
-use Rattle.record_format.proofs.Storing.{inverted}
+use Rattle.std.proofs.Common.{◌≡◌, ◌+◌, ◌≤◌, length}
+use Rattle.record_format.specs.Gate.{body_bytes, inverse_list}
+use Rattle.record_format.specs.Reading.{size, gates_in}
+use Rattle.record_format.proofs.Chunks.{gates_of}
+use Rattle.record_format.proofs.Storing.{with_left}
 use Rattle.record_writing.proofs.inverter.write_inverse.Given as goal
 
 abbrev pub invariant-loop-i : goal.invariant-loop-i
-invariant-loop-i l = (l.i ≤ l.g) × (length l.buffer ≡ length l.initial.buffer) × (l.buffer ≡ inverted l.s l.g l.initial.buffer l.i)
-
-abbrev pub decreases-loop-i : goal.decreases-loop-i
-decreases-loop-i l = l.g - l.i
+invariant-loop-i l =
+    let rest = l.i-iterator.iter.iter.rest.now in
+    record {
+      fits : size (l.i-iterator.count + length rest) ≤ length l.buffer;
+      left : with_left l.buffer (size l.i-iterator.count) (body_bytes (inverse_list (gates_of rest))) ≡ with_left l.initial.buffer 5 (body_bytes (inverse_list (gates_in l.gates)));
+    }

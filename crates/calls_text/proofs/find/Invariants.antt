@@ -1,6 +1,0 @@
--- `calls_text::find` ends: each turn goes one place on.
-use Rattle.std.proofs.Common.{length, ◌-◌}
-use Rattle.calls_text.proofs.find.Given as goal
-
-abbrev pub decreases-loop-at : goal.decreases-loop-at
-decreases-loop-at l = length l.text - l.at

@@ -1,6 +1,0 @@
--- `calls_text::workspaces::fill_words` ends: each turn goes one place on.
-use Rattle.std.proofs.Common.{length, ◌-◌}
-use Rattle.calls_text.proofs.workspaces.fill_words.Given as goal
-
-abbrev pub decreases-loop-i : goal.decreases-loop-i
-decreases-loop-i l = length l.initial.words - l.i

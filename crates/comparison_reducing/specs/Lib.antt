@@ -1,0 +1,2 @@
+-- What the code's kinds of step stand for.
+pub mod Kind

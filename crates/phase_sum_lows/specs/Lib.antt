@@ -1,0 +1,2 @@
+-- What the keys of sorts know of their sets.
+pub mod HighShared

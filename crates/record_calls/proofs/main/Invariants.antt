@@ -1,5 +1,0 @@
--- `record_calls::main` ends: each turn is counted.
-use Rattle.record_calls.proofs.main.Given as goal
-
-abbrev pub decreases-loop-turns : goal.decreases-loop-turns
-decreases-loop-turns l = l.turns
