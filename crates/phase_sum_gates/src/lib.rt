@@ -113,6 +113,7 @@ fn controlled_z(
 
 // A gate on one qubit.
 #[tactic(auto, unfolding(amplitude::specs::Circuit::tally, phase_sum_meaning::specs::Room::room_for, phase_sum_meaning::specs::Building::gate_by))]
+#[inline(always)]
 fn run_one(
     run: Run,
     kind: OneQubit,
@@ -140,6 +141,7 @@ fn run_one(
 }
 
 // A gate on two qubits.
+#[inline(always)]
 fn run_two(
     run: Run,
     kind: TwoQubit,
@@ -166,6 +168,7 @@ fn run_two(
 }
 
 // A gate.
+#[inline(always)]
 pub fn run_gate(run: Run, gate: Gate, wires: &mut Wires, sets: &mut [u64], coeffs: &mut [u8]) -> Run
     requires { Runnable run (gate_in gate ∷ []) (lent wires.old sets.old coeffs.old) × Level sets.old coeffs.old }
     ensures { Runs (gate_in gate) run result (lent wires.old sets.old coeffs.old) (lent wires.new sets.new coeffs.new) }
