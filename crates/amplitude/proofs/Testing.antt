@@ -1,8 +1,8 @@
 -- The tests of specs/Testing.antt pass exactly where what they test for holds.
 -- Assumes nothing.
-use mathlib.Core.Path.{◌≡◌, refl, sym, ◌∙◌, ap, subst}
+use mathlib.Core.Path.{◌≡◌, refl, ap, subst}
 use mathlib.Core.Logic.{◌↔◌}
-use mathlib.Core.Bool.{Bool, true, false, ◌&&◌, false≢true, and-eq-true_iff}
+use mathlib.Core.Bool.{Bool, true, ◌&&◌, false≢true, and-eq-true_iff}
 use mathlib.Core.List.{List}
 use Prim.Native.Nat.{ℕ, zero, suc, ◌^◌, ◌<◌}
 use native.Mathlib.Omega.{arith}
@@ -57,14 +57,6 @@ pub below_pass : (m : ℕ) (test : ℕ → Bool) → ((v : ℕ) → v < m → te
 unfolding below
 below_pass zero test h = refl
 below_pass (suc m) test h = rw (below_pass m test (λ v l. h v (omega arith)), h m (omega arith))
-
--- a test that fails at some number fails below m
-pub below_fail : (m : ℕ) (test : ℕ → Bool) (v : ℕ) → v < m → test v ≡ false → below m test ≡ false
-below_fail m test v l e = go (below m test) refl
-  where
-    go : (b : Bool) → below m test ≡ b → b ≡ false
-    go false h = refl
-    go true h = absurd (false≢true (sym e ∙ below_true m test h v l))
 
 -- where the test of two states passes, ω^j carries every amplitude
 pub carries_true : (n j : ℕ) (φ ψ : State) → carries_state n j φ ψ ≡ true → (w : ℕ) → w < 2 ^ n → ω^ j (φ w) ≡ ψ w

@@ -1,8 +1,8 @@
 // The joins, by a row. The numbers say how many bytes of the buffer are lent, and with what all of them begin.
 #![tactic(auto)]
 
-use calls_lists::refusals::Which;
-use calls_lists::{Lists, MOST_BYTES, refusals};
+use calls_lists::refusals::OfPair;
+use calls_lists::{Lists, MOST_BYTES};
 use calls_text::error::RowError;
 use calls_text::hex::Hex;
 use calls_text::numbers::numbers;
@@ -13,16 +13,6 @@ use std::alloc::Global;
 use std::io;
 use std::io::Write;
 
-// The list of a pair that is refused, if it is one of them.
-// Stays: the same two cases of another type of refusals; a trait over both types would be longer than the match.
-fn refused_list(r: Refusal) -> Option<(Which, records::Refusal)> {
-    match r {
-        Refusal::First(list) => Some((Which::First, list)),
-        Refusal::Second(list) => Some((Which::Second, list)),
-        _ => None,
-    }
-}
-
 // The refusal, or what was written; and how many of the bytes behind it hold what they held.
 fn show(out: &mut impl Write, answer: Result<usize, Refusal>, buffer: &Lent<u8>) -> io::Result<()> {
     match answer {
@@ -30,7 +20,7 @@ fn show(out: &mut impl Write, answer: Result<usize, Refusal>, buffer: &Lent<u8>)
             let record = Hex(buffer.now().get(..size).unwrap_or(&[]));
             write!(out, "length {size} {record}")?;
         }
-        Err(r) => refusals::show_of_pair(out, u8::from(r), refused_list(r))?,
+        Err(r) => write!(out, "{}", OfPair::from(r))?,
     }
     let kept = buffer.kept(answer.unwrap_or(0));
     write!(out, " kept {kept}")
@@ -47,7 +37,7 @@ pub fn join<F: FnOnce(&[u8], &[u8], &mut [u8]) -> Result<usize, Refusal>>(
 {
     let [size, seed] = numbers::<2>(row.numbers)?;
     let lists = Lists::new(alloc, row.first, row.second)?;
-    let mut buffer = Lent::<u8>::new(alloc, MOST_BYTES, seed as u64)?;
+    let mut buffer = Lent::<u8>::new(alloc, MOST_BYTES, u64::try_from(seed)?)?;
     let lent = buffer.first(size).ok_or(RowError::Bad)?;
     let answer = call(lists.first(), lists.second(), lent);
     show(out, answer, &buffer)?;

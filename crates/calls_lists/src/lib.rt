@@ -1,5 +1,5 @@
-// Gate lists in rows: here the bytes that a row lends, in `refusals` what it prints where a list is refused. Bytes are in hexadecimal, or
-// a list of gates on n qubits, which is built by start and add. `2:h0 t1 c01` is H on qubit 0, T on 1 and CX from 0 to 1: for each gate a
+// Gate lists in rows: here the bytes that a row lends, in `refusals` and `reports` what it prints of a refusal and of a report. Bytes are in
+// hexadecimal, or a list of gates on n qubits, which is built by start and add. `2:h0 t1 c01` is H on qubit 0, T on 1 and CX from 0 to 1: for each gate a
 // letter, a qubit in hexadecimal and, for a gate on two qubits, the second; one space between two. The letters: x y z s t h, r and u for the
 // inverses of S and T, c for CX, k for CZ, w for SWAP.
 #![tactic(auto)]
@@ -8,6 +8,7 @@ ghost use Rattle.std.specs.Prelude.{◌≡◌, ◌≤◌, ◌↔◌, ◌∷◌, 
 
 mod gates;
 pub mod refusals;
+pub mod reports;
 
 use calls_text::error::RowError;
 use calls_text::hex;

@@ -1,61 +1,67 @@
 // What a row prints of a refusal: the number and, where it is about a gate, that gate's index.
 use records::Refusal;
-use std::io::Write;
-use std::{fmt, io};
-
-// The gate that a refusal is about, if it is about one.
-fn gate_of(r: Refusal) -> Option<usize> {
-    match r {
-        Refusal::UnknownKind { gate }
-        | Refusal::SpareByte { gate }
-        | Refusal::QubitRange { gate } => Some(gate),
-        _ => None,
-    }
-}
+use std::fmt;
 
 // ` gate` and its index, where a refusal is about a gate.
-fn show_gate(out: &mut impl Write, r: Refusal) -> io::Result<()> {
-    match gate_of(r) {
-        Some(gate) => write!(out, " gate {gate}"),
-        None => Ok(()),
+#[derive(Clone, Copy)]
+struct AtGate(Refusal);
+
+impl fmt::Display for AtGate {
+    fn fmt<W: fmt::Write>(&self, f: &mut fmt::Formatter<W>) -> fmt::Result {
+        match self.0 {
+            Refusal::UnknownKind { gate }
+            | Refusal::SpareByte { gate }
+            | Refusal::QubitRange { gate } => write!(f, " gate {gate}"),
+            _ => Ok(()),
+        }
     }
 }
 
 // The refusal of a list.
-pub fn show(out: &mut impl Write, r: Refusal) -> io::Result<()> {
-    let number = u8::from(r);
-    write!(out, "refused {number}")?;
-    show_gate(out, r)
-}
-
-// Which list of a pair is refused.
 #[derive(Clone, Copy)]
-pub enum Which {
-    First,
-    Second,
-}
+pub struct OfList(pub Refusal);
 
-impl fmt::Display for Which {
+impl fmt::Display for OfList {
     fn fmt<W: fmt::Write>(&self, f: &mut fmt::Formatter<W>) -> fmt::Result {
-        f.write_str(match self {
-            Which::First => "first",
-            Which::Second => "second",
-        })
+        write!(f, "refused {}{}", u8::from(self.0), AtGate(self.0))
     }
 }
 
-// The refusal of a pair, with the list that is refused, if it is one of them.
-pub fn show_of_pair(
-    out: &mut impl Write,
-    number: u8,
-    list: Option<(Which, Refusal)>,
-) -> io::Result<()> {
-    write!(out, "refused {number}")?;
-    match list {
-        Some((which, r)) => {
-            write!(out, " {which}")?;
-            show_gate(out, r)
+// The refusal of a pair: of one of its lists, or of both together by its number.
+#[derive(Clone, Copy)]
+pub enum OfPair {
+    First(Refusal),
+    Second(Refusal),
+    Both(u8),
+}
+
+impl From<comparison_types::Refusal> for OfPair {
+    fn from(refusal: comparison_types::Refusal) -> OfPair {
+        match refusal {
+            comparison_types::Refusal::First(r) => OfPair::First(r),
+            comparison_types::Refusal::Second(r) => OfPair::Second(r),
+            of_both => OfPair::Both(of_both.into()),
         }
-        None => Ok(()),
+    }
+}
+
+// Stays: the same two cases of another type of refusals; a trait over both types would be longer than the match.
+impl From<joining_types::Refusal> for OfPair {
+    fn from(refusal: joining_types::Refusal) -> OfPair {
+        match refusal {
+            joining_types::Refusal::First(r) => OfPair::First(r),
+            joining_types::Refusal::Second(r) => OfPair::Second(r),
+            of_both => OfPair::Both(of_both.into()),
+        }
+    }
+}
+
+impl fmt::Display for OfPair {
+    fn fmt<W: fmt::Write>(&self, f: &mut fmt::Formatter<W>) -> fmt::Result {
+        match *self {
+            OfPair::First(r) => write!(f, "refused {} first{}", u8::from(r), AtGate(r)),
+            OfPair::Second(r) => write!(f, "refused {} second{}", u8::from(r), AtGate(r)),
+            OfPair::Both(number) => write!(f, "refused {number}"),
+        }
     }
 }

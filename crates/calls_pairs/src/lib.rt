@@ -1,43 +1,26 @@
-// The calls on a pair, compare and pick, and how a pair's refusal is printed. The numbers say how many words and bytes of the workspaces are
+// The calls on a pair, compare and pick. The numbers say how many words and bytes of the workspaces are
 // lent, and with what all their places begin.
 #![tactic(auto)]
 
-use calls_lists::refusals::Which;
-use calls_lists::{Lists, refusals};
+use calls_lists::Lists;
+use calls_lists::refusals::OfPair;
+use calls_lists::reports::BehindVerdict;
 use calls_text::error::RowError;
 use calls_text::hex::Hex;
 use calls_text::numbers::numbers;
 use calls_text::places::Lent;
 use calls_text::rows::Row;
-use comparison::Refusal;
+use comparison::{PLACES, SET_WORDS};
+use record_format::{GATE_SIZE, HEAD_SIZE};
 use records::Report;
 use std::alloc::Global;
 use std::io;
 use std::io::Write;
 
-// The words and the bytes that there are to lend, and those that a comparison uses.
-const ALL_WORDS: usize = 6464;
+// The words and the bytes that there are to lend: 64 more than a comparison uses.
+const ALL_WORDS: usize = SET_WORDS + 64;
 
-const ALL_BYTES: usize = 3264;
-
-const USED_WORDS: usize = 6400;
-
-const USED_BYTES: usize = 3200;
-
-// The list of a pair that is refused, if it is one of them.
-// Stays: the same two cases of another type of refusals; a trait over both types would be longer than the match.
-fn refused_list(r: Refusal) -> Option<(Which, records::Refusal)> {
-    match r {
-        Refusal::First(list) => Some((Which::First, list)),
-        Refusal::Second(list) => Some((Which::Second, list)),
-        _ => None,
-    }
-}
-
-// `refused`, the number and, where one of the lists is refused, which one and the gate.
-pub fn show_refusal(out: &mut impl Write, r: Refusal) -> io::Result<()> {
-    refusals::show_of_pair(out, u8::from(r), refused_list(r))
-}
+const ALL_BYTES: usize = PLACES + 64;
 
 // A call on the two lists of a row, and the workspaces afterwards.
 fn call_with<W: Write, F: FnOnce(&mut W, &[u8], &[u8], &mut [u64], &mut [u8]) -> io::Result<()>>(
@@ -49,15 +32,15 @@ fn call_with<W: Write, F: FnOnce(&mut W, &[u8], &[u8], &mut [u64], &mut [u8]) ->
     requires { F.IsAlwaysCallable call }
 {
     let [words, bytes, seed] = numbers::<3>(row.numbers)?;
-    let seed = seed as u64;
+    let seed = u64::try_from(seed)?;
     let lists = Lists::new(alloc, row.first, row.second)?;
     let mut sets = Lent::<u64>::new(alloc, ALL_WORDS, seed)?;
     let mut coeffs = Lent::<u8>::new(alloc, ALL_BYTES, seed)?;
     let lent_sets = sets.first(words).ok_or(RowError::Bad)?;
     let lent_coeffs = coeffs.first(bytes).ok_or(RowError::Bad)?;
     call(out, lists.first(), lists.second(), lent_sets, lent_coeffs)?;
-    let sets = sets.seen(USED_WORDS);
-    let coeffs = coeffs.seen(USED_BYTES);
+    let sets = sets.seen(SET_WORDS);
+    let coeffs = coeffs.seen(PLACES);
     write!(out, ", sets {sets}, coeffs {coeffs}")?;
     Ok(())
 }
@@ -73,15 +56,10 @@ fn show_comparison(
     match comparison::compare(first, second, sets, coeffs) {
         Ok(outcome) => {
             let verdict = outcome.verdict;
-            let r = Report::from(outcome);
-            write!(out, "{verdict} {} {}", r.first, r.second)?;
-            write!(
-                out,
-                " {} {} {} {} {}",
-                r.pins, r.sums, r.turns, r.joins, r.left
-            )
+            let numbers = BehindVerdict(Report::from(outcome));
+            write!(out, "{verdict} {numbers}")
         }
-        Err(r) => show_refusal(out, r),
+        Err(r) => write!(out, "{}", OfPair::from(r)),
     }
 }
 
@@ -89,8 +67,8 @@ fn show_comparison(
 fn is_record_of(part: &[u8], list: &[u8]) -> bool {
     match list {
         [_, _, _, low, high, ..] => {
-            let gates = u16::from_le_bytes([*low, *high]) as usize;
-            list.get(..5 + 3 * gates) == Some(part)
+            let gates = usize::from(u16::from_le_bytes([*low, *high]));
+            list.get(..HEAD_SIZE + GATE_SIZE * gates) == Some(part)
         }
         _ => false,
     }

@@ -3,7 +3,7 @@
 ghost use Rattle.std.specs.Prelude.{◌≡◌, ◌+◌, ◌-◌, ◌≤◌, ◌↔◌, length, IsSome, IfSome, IfOk, vec_len};
 
 use std::alloc::{AllocError, Global};
-use std::{fmt, iter};
+use std::fmt;
 
 // The word behind one: Marsaglia's xorshift, which leads from 0 to 0 alone.
 fn xorshift(x: u64) -> u64 {
@@ -15,27 +15,22 @@ fn xorshift(x: u64) -> u64 {
 // What a place can hold.
 pub trait Place: Copy + Default + PartialEq {
     // The word behind one: of 0 it is 0.
-    fn next(word: u64) -> u64;
+    fn next(word: u64) -> u64 {
+        xorshift(word)
+    }
 
     // What a place holds at a word: of 0 alone it is 0.
     fn of(word: u64) -> Self;
 }
 
 impl Place for u64 {
-    fn next(word: u64) -> u64 {
-        xorshift(word)
-    }
-
     fn of(word: u64) -> u64 {
         word
     }
 }
 
 impl Place for u8 {
-    fn next(word: u64) -> u64 {
-        xorshift(word)
-    }
-
+    // Stays: `as`, which is proved to lose nothing here; `try_from` gives a case that never comes, and no value for it.
     fn of(word: u64) -> u8 {
         if word == 0 { 0 } else { (word % 255 + 1) as u8 }
     }
@@ -48,7 +43,7 @@ impl Place for i64 {
     }
 
     fn of(word: u64) -> i64 {
-        let half = (word / 2) as i64;
+        let half = (word / 2).cast_signed();
         match word {
             0 => 0,
             1 => i64::MIN,
@@ -72,8 +67,12 @@ impl<T: Place> Lent<T> {
         ensures places { IfOk result (λ l. vec_len l.places ≡ vec_len l.before) }
         ensures before { IfOk result (λ l. vec_len l.before ≡ count) }
     {
-        let words = iter::successors(Some(seed), |word| Some(T::next(*word)));
-        let before: Vec<T> = words.map(|word| T::of(word)).take(count).collect(alloc)?;
+        let mut before = vec![in alloc; T::default(); count]?;
+        let mut word = seed;
+        for place in before.iter_mut() {
+            *place = T::of(word);
+            word = T::next(word);
+        }
         let places = before.clone()?;
         Ok(Lent { before, places })
     }
@@ -139,8 +138,7 @@ pub struct Seen {
 
 impl fmt::Display for Seen {
     fn fmt<W: fmt::Write>(&self, f: &mut fmt::Formatter<W>) -> fmt::Result {
-        let zero = self.zero;
-        let kept = self.kept;
+        let Seen { zero, kept } = *self;
         write!(f, "zero {zero} kept {kept}")
     }
 }

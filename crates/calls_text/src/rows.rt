@@ -74,6 +74,7 @@ fn answer_line<W: Write, F: Fn(&mut W, Row<'_>) -> Result<(), RowError>>(
 }
 
 // The line of each row until the input ends, and how many there were. A call answers nothing before its row is read.
+// Stays: calls take `alloc` and `out`; in a struct that lends the writer each would be `&mut Call<'_, W>` with `W: Write`, and say `call.out` for `out`.
 pub fn run<W: Write + Drop, F: Fn(&mut BufWriter<W>, Row<'_>) -> Result<(), RowError>>(
     alloc: Global,
     input: impl Read + Drop,

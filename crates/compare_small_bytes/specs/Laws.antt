@@ -2,7 +2,7 @@
 -- for it.
 -- Assumes nothing.
 use Prim.Native.Nat.{ℕ, ◌+◌}
-use mathlib.Core.Path.{◌≡◌, refl, sym, ap, ◌∙◌}
+use mathlib.Core.Path.{◌≡◌, refl, ap}
 use mathlib.Core.Bool.{◌||◌}
 use mathlib.Core.Option.{Option, none, some}
 use Rattle.std.specs.Prelude.{Result, Ok, Err}
@@ -17,14 +17,14 @@ use Rattle.comparison_types.specs.declared.Refusal.{Refusal}
 use Rattle.dense_types.specs.declared.Outcome.{Outcome}
 use Rattle.dense_types.specs.Call.{Found, says, said_of, unless_fault, compare_columns, block_rows, dense_comparison}
 use Rattle.pair_bytes.specs.Pair.{follow}
-use Rattle.pair_bytes.specs.Table.{unless_refused}
 use Rattle.pair_bytes.specs.Limits.{ReadFarEnough}
 use Rattle.pair_bytes.specs.Inner.{answer_line}
-use Rattle.pair_bytes.proofs.Laws.{AnswerIs, line_by_fault, twelve_in_place, far_enough}
+use Rattle.pair_bytes.proofs.Laws.{AnswerIs, line_by_table, far_enough}
 use Rattle.dense_line.specs.Line.{line_of}
 use Rattle.compare_small_bytes.specs.Lines.{outcome_line, pair_line}
 
 -- an answer is the fault that is found, if any, else the line of what is found
+-- Stays: the cases of this comparison's own type of what it says; one lemma over both types would take their constructors and that these differ.
 answer_is : (fault : Option PairFault) (r : Found) (answer : Result Outcome Refusal) → said_of answer ≡ unless_fault fault (says r)
     → AnswerIs outcome_line fault (line_of (says r)) answer
 answer_is none r (Ok o) e = (refl, ap line_of e)
@@ -39,8 +39,7 @@ unfolding pair_line
 printed s t answer e =
     let fault = pair_fault (read s) (read t) (block_rows s t buffer_size) in
     let found = compare_columns (qubits s) (gates s) (gates t) in
-    line_by_fault outcome_line (follow s t) fault (line_of (says found)) answer (answer_is fault found answer e)
-    ∙ ap (λ (o : Option PairFault). unless_refused o (line_of (says found))) (sym (twelve_in_place s t (block_rows s t buffer_size) (refl, (refl, tt))))
+    line_by_table outcome_line s t (block_rows s t buffer_size) (line_of (says found)) answer (refl, (refl, tt)) (answer_is fault found answer e)
 
 -- the program reads far enough
 pub read_far_enough : ReadFarEnough pair_line

@@ -14,13 +14,13 @@ use comparison_checking::{PLACES, SET_WORDS, check_call};
 use comparison_judging::judge;
 use comparison_pinning::pin;
 use comparison_reducing::reduce;
-use comparison_types::{Compared, End, Outcome, Pair, Refusal};
+use comparison_types::{Compared, End, Outcome, Pair, Qubits, Refusal};
 use phase_sum_building::build;
 use phase_sum_terms::reading::PhaseTerms;
 use phase_sum_terms::terms::clear;
 use phase_sum_terms::wires::Wires;
-use phase_sum_types::WORDS_EACH;
-use record_reading::gate_bytes;
+use phase_sum_types::Parity;
+use record_reading::MOST_QUBITS;
 
 // Reducing what pinning left.
 fn reduce_end(pinned: End, wires: &mut Wires, sets: &mut [u64], coeffs: &mut [u8]) -> End
@@ -34,6 +34,8 @@ fn reduce_end(pinned: End, wires: &mut Wires, sets: &mut [u64], coeffs: &mut [u8
 }
 
 // The comparison of two lists of gates, by their bytes, on as many qubits as there are wires. The wires and the slices keep what the reduction left.
+// Stays: two lists as two parameters, here and below: what `Buildable` says of them goes by n, the number of the wires; a struct with an n of its
+// own would have each contract say that both are the same.
 fn decide_in(
     first: &[u8],
     second: &[u8],
@@ -49,7 +51,7 @@ fn decide_in(
     let pinned = pin(sum, wires, sets, coeffs);
     let end = reduce_end(pinned, wires, sets, coeffs);
     let terms = PhaseTerms::new(sets, coeffs, end.reached.sum.phase);
-    judge(end, n, &terms)
+    judge(end, Qubits::new(n as u32), &terms)
 }
 
 // The comparison of two lists of gates on n qubits, by their bytes, in the places that are lent. All of them are zero afterwards.
@@ -58,36 +60,38 @@ fn decide(n: usize, first: &[u8], second: &[u8], sets: &mut [u64], coeffs: &mut 
     ensures steps { result_of result ≡ compare 0 n (gates_in first.now) (gates_in second.now) }
     ensures zero { (sets.new ≡ replicate (length sets.old) 0) × (coeffs.new ≡ replicate (length coeffs.old) 0) }
 {
-    let mut wire_sets = [0u64; WORDS_EACH * 16];
-    let mut wire_flips = [false; 16];
-    let words = WORDS_EACH * n;
-    let mut wires = Wires::new(&mut wire_sets[..words], &mut wire_flips[..n]);
+    let mut wires = [Parity::default(); MOST_QUBITS];
+    let mut wires = Wires::new(&mut wires[..n]);
     let outcome = decide_in(first, second, &mut wires, sets, coeffs);
     clear(sets, coeffs);
     outcome
 }
 
-// Two lists compared, each read once: the outcome with the gates of both lists, or why the pair is refused. Only the places that the
+// Two lists compared, each read once: the outcome with the gate bytes of both lists, or why the pair is refused. Only the places that the
 // comparison may use are lent on.
-pub fn compare_read(
-    first: &[u8],
-    second: &[u8],
-    sets: &mut [u64],
-    coeffs: &mut [u8],
-) -> Result<Compared, Refusal>
+pub fn compare_read<'a, 'b, 'c>(
+    first: &'a [u8],
+    second: &'a [u8],
+    sets: &'b mut [u64],
+    coeffs: &'c mut [u8],
+) -> Result<Compared<'a>, Refusal>
     ensures steps { said_of (answer_of result) ≡ comparison first.now second.now (length sets.old) (length coeffs.old) }
     ensures kept { (sets.new ≡ left_by set_words (said_of (answer_of result)) sets.old) × (coeffs.new ≡ left_by places (said_of (answer_of result)) coeffs.old) }
     ensures found { IfOk result (λ c. ComparedRead first.now second.now c) }
 {
-    let Pair { n, g, h } = check_call(first, second, sets.len(), coeffs.len())?;
+    let Pair { n, first, second } = check_call(first, second, sets.len(), coeffs.len())?;
     let outcome = decide(
         n,
-        gate_bytes(first, g),
-        gate_bytes(second, h),
+        first,
+        second,
         &mut sets[..SET_WORDS],
         &mut coeffs[..PLACES],
     );
-    Ok(Compared { outcome, g, h })
+    Ok(Compared {
+        outcome,
+        first,
+        second,
+    })
 }
 
 // Two lists compared: the verdict with its inputs and counts, or why the pair is refused.

@@ -10,3 +10,4 @@ pub use comparing::compare;
 pub use comparison_checking::{PLACES, SET_WORDS};
 pub use comparison_types::{Outcome, Refusal, Verdict};
 pub use picking::pick;
+pub use record_format::Report;

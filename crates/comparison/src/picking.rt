@@ -1,16 +1,16 @@
 // The pick: of two lists that compare equal, the record with fewer T gates. Document 01, "Report, pick, builder".
 // Stays: licensees lend two plain slices, so sets and coefficients are two parameters; `Phase` of phase_sum_types says why they stay so.
-ghost use Rattle.std.specs.Prelude.{◌≡◌, ◌≤◌, ◌&&◌, length, take};
-ghost use Rattle.record_format.specs.Reading.{size, gates_in};
+ghost use Rattle.std.specs.Prelude.{◌≡◌, ◌+◌, ◌≤◌, ◌&&◌, length, take};
+ghost use Rattle.record_format.specs.Format.{head_size};
+ghost use Rattle.record_format.specs.Reading.{gates_in};
 ghost use Rattle.phase_sum_meaning.specs.Room.{places, set_words};
 ghost use Rattle.comparison_types.specs.Call.{comparison, left_by, verdict_of, is_equal, better, picked, picked_part, picked_at};
 ghost use Rattle.comparison_types.specs.Clauses.{PickIsRight, EmptyIfRefused};
 
 use crate::comparing::compare_read;
-use comparison_types::{Compared, Verdict};
+use comparison_types::Verdict;
 use gate_counting::t_gates;
 use record_format::{GATE_SIZE, HEAD_SIZE};
-use record_reading::gate_bytes;
 
 // Is the second list better: fewer T gates, or as many and fewer gates? By the gate bytes of both.
 fn second_is_better(first: &[u8], second: &[u8]) -> bool
@@ -37,13 +37,13 @@ fn takes_second(verdict: Verdict, first: &[u8], second: &[u8]) -> bool
     }
 }
 
-// The bytes of a record of g gates at the start of s.
-fn whole(s: &[u8], g: usize) -> &[u8]
-    requires { size g ≤ length s.now }
-    ensures content { result.now ≡ take (size g) s.now }
+// The bytes of the record at the start of s that has these gate bytes.
+fn whole<'a, 'b>(s: &'a [u8], gates: &'b [u8]) -> &'a [u8]
+    requires { head_size + length gates.now ≤ length s.now }
+    ensures content { result.now ≡ take (head_size + length gates.now) s.now }
     ensures own { result.ref_ptr ≡ s.entry.ref_ptr }
 {
-    &s[..HEAD_SIZE + GATE_SIZE * g]
+    &s[..HEAD_SIZE + gates.len()]
 }
 
 // Of two lists that compare equal, the record of the better one, as the caller's own part; the first if they are different, undecided or
@@ -62,11 +62,11 @@ pub fn pick<'a, 'b, 'c>(
 {
     match compare_read(first, second, sets, coeffs) {
         Err(_) => &first[..0],
-        Ok(Compared { outcome, g, h }) => {
-            if takes_second(outcome.verdict, gate_bytes(first, g), gate_bytes(second, h)) {
-                return whole(second, h);
+        Ok(compared) => {
+            if takes_second(compared.outcome.verdict, compared.first, compared.second) {
+                return whole(second, compared.second);
             }
-            whole(first, g)
+            whole(first, compared.first)
         }
     }
 }

@@ -24,24 +24,30 @@ pub const SET_WORDS: usize = WORDS_EACH * PLACES;
 pub const MOST_VARIABLES: usize = 128;
 
 // 8 and 9, for two accepted lists with these heads.
-fn check_sizes(first: &[u8], second: &[u8], one: Head, other: Head) -> Result<Pair, Refusal>
+fn check_sizes<'a>(
+    first: &'a [u8],
+    second: &'a [u8],
+    one: Head,
+    other: Head,
+) -> Result<Pair<'a>, Refusal>
     requires { AcceptedWith one.n one.g first.now × AcceptedWith other.n other.g second.now }
     ensures fault { found_fault result ≡ pair_fault (read first.now) (read second.now) [] }
     ensures found { IfOk result (λ p. PairRead first.now second.now p) }
 {
-    let Head { n, g } = one;
-    let h = other.g;
+    let n = one.n;
     if n != other.n {
         return Err(Refusal::QubitsDiffer);
     }
-    if n + (h_gates(gate_bytes(first, g)) + h_gates(gate_bytes(second, h))) > MOST_VARIABLES {
+    let first = gate_bytes(first, one.g);
+    let second = gate_bytes(second, other.g);
+    if n + (h_gates(first) + h_gates(second)) > MOST_VARIABLES {
         return Err(Refusal::TooManyVariables);
     }
-    Ok(Pair { n, g, h })
+    Ok(Pair { n, first, second })
 }
 
 // The checks on two records: the first list, the second, 8 and 9. Each list is read once, and what was found is handed on.
-pub fn check_pair(first: &[u8], second: &[u8]) -> Result<Pair, Refusal>
+pub fn check_pair<'a>(first: &'a [u8], second: &'a [u8]) -> Result<Pair<'a>, Refusal>
     ensures fault { found_fault result ≡ pair_fault (read first.now) (read second.now) [] }
     ensures found { IfOk result (λ p. PairRead first.now second.now p) }
 {
@@ -58,7 +64,12 @@ pub fn workspace_short(words: usize, bytes: usize) -> bool
 }
 
 // All the checks on a call: those on the two records, then that on the workspaces.
-pub fn check_call(first: &[u8], second: &[u8], words: usize, bytes: usize) -> Result<Pair, Refusal>
+pub fn check_call<'a>(
+    first: &'a [u8],
+    second: &'a [u8],
+    words: usize,
+    bytes: usize,
+) -> Result<Pair<'a>, Refusal>
     ensures fault { found_fault result ≡ pair_fault (read first.now) (read second.now) (workspace_rows words bytes) }
     ensures found { IfOk result (λ p. PairRead first.now second.now p) }
 {

@@ -1,7 +1,7 @@
 // The comparison layer, judging: the verdict on where the reduction ended, with its two inputs and the counts. Document 01, "Reducing it".
 #![tactic(auto)]
 
-ghost use Rattle.std.specs.Prelude.{◌≡◌, ◌≤◌, Option};
+ghost use Rattle.std.specs.Prelude.{◌≡◌, Option};
 ghost use Rattle.phase_sum_types.specs.Workspace.{parity_of, phase_of, Lent};
 ghost use Rattle.comparison_meaning.specs.Verdict.{blocked_input, result as verdict_result, searched, judge};
 ghost use Rattle.phase_sum_types.specs.declared.Parity.{Parity};
@@ -9,22 +9,21 @@ ghost use Rattle.comparison_types.specs.Call.{verdict_of, result_of};
 ghost use Rattle.comparison_types.specs.Inner.{end_of, stops_at};
 
 use comparison_searching::search;
-use comparison_types::{End, Outcome, Progress, Verdict, agreement};
+use comparison_types::{End, Outcome, Progress, Qubits, Verdict, agreement};
 use phase_sum_terms::reading::PhaseTerms;
 use phase_sum_terms::terms::negate;
 use phase_sum_types::Parity;
 
 // An input that makes a blocked parity 1: 0 if its constant is 1, else the input that holds only its lowest qubit.
 #[tactic(auto, unfolding(comparison_meaning::specs::Verdict::blocked_input))]
-fn blocked_input(by: Parity, n: usize) -> u16
-    requires { n ≤ 16 }
+fn blocked_input(by: Parity, n: Qubits) -> u16
     ensures { result ≡ blocked_input n (parity_of by) }
 {
     if by.flipped {
         return 0;
     }
-    match by.set.below(n as u32).lowest() {
-        Some(v) => 1 << v,
+    match by.set.below(n.count()).lowest() {
+        Some(v) => 1 << v.number(),
         None => 0,
     }
 }
@@ -50,24 +49,22 @@ fn outcome(reached: Progress, verdict: Verdict, first: u16, second: u16) -> Outc
 
 // No path variable is left: different unless pins and sums agree, else the search decides. Where it finds nothing, minus the constant is the
 // power of ω that carries the first list to the second.
-fn searched(reached: Progress, n: usize, terms: &PhaseTerms) -> Outcome
-    requires { n ≤ 16 }
+fn searched(reached: Progress, n: Qubits, terms: &PhaseTerms) -> Outcome
     ensures { (l : Lent) → terms.now ≡ phase_of reached.sum.phase l.sets l.coeffs → result_of result ≡ searched 0 n (end_of (stops_at reached) l) }
 {
     let Progress { sum, counts } = reached;
     if counts.pins != counts.sums {
         return outcome(reached, Verdict::Different, 0, 0);
     }
-    if let Some(input) = search(terms, n as u32) {
+    if let Some(input) = search(terms, n) {
         return outcome(reached, Verdict::Different, 0, input as u16);
     }
     let j = negate(sum.phase.constant);
-    outcome(reached, agreement(j), j as u16, 0)
+    outcome(reached, agreement(j), u16::from(j), 0)
 }
 
 // The verdict on n qubits, of an end and its terms.
-pub fn judge(end: End, n: usize, terms: &PhaseTerms) -> Outcome
-    requires { n ≤ 16 }
+pub fn judge(end: End, n: Qubits, terms: &PhaseTerms) -> Outcome
     ensures { (l : Lent) → terms.now ≡ phase_of end.reached.sum.phase l.sets l.coeffs → result_of result ≡ judge 0 n (end_of end l) }
 {
     let End { blocked, reached } = end;

@@ -13,30 +13,21 @@ ghost use Rattle.comparison_types.specs.Inner.{PinnedQubit, PinnedAll};
 use comparison_types::{Counts, End, Progress};
 use phase_sum_stepping::replace;
 use phase_sum_terms::wires::Wires;
-use phase_sum_types::{Parity, Set, Sum};
+use phase_sum_types::{Parity, Sum, Variable};
 
 // The parity of output wire q and input q together.
 fn mismatch(wires: &Wires, q: usize) -> Parity
     requires { (q < most_variables) × (q < length wires.now) }
     ensures { parity_of result ≡ get_or wires.now q (of 0) ⊕ input 0 q }
 {
-    let w = wires.get(q);
-    Parity {
-        set: w.set ^ Set::single(q as u32),
-        ..w
-    }
+    wires.get(q) ^ Parity::from(Variable::new(q as u32))
 }
 
 // The rest of a parity without a variable that it holds.
-#[tactic(auto, unfolding(phase_sum_meaning::specs::Parity::rest))]
-pub fn rest_of(w: Parity, z: u32) -> Parity
-    requires { z < most_variables }
+pub fn rest_of(w: Parity, z: Variable) -> Parity
     ensures { parity_of result ≡ rest z (parity_of w) }
 {
-    Parity {
-        set: w.set ^ Set::single(z),
-        ..w
-    }
+    w ^ Parity::from(z)
 }
 
 // Is the parity constantly 0?
@@ -80,16 +71,8 @@ pub fn pin(sum: Sum, wires: &mut Wires, sets: &mut [u64], coeffs: &mut [u8]) -> 
     for q in 0..wires.len() {
         match pin_qubit(reached, q, wires, sets, coeffs) {
             Ok(next) => reached = next,
-            Err(by) => {
-                return End {
-                    blocked: Some(by),
-                    reached,
-                };
-            }
+            Err(by) => return End::blocked_at(reached, by),
         }
     }
-    End {
-        blocked: None,
-        reached,
-    }
+    End::stops_at(reached)
 }

@@ -12,19 +12,19 @@ ghost use Rattle.comparison_reducing.specs.Kind.{kind_in};
 
 use comparison_pinning::rest_of;
 use comparison_types::{End, Progress};
-use phase_sum_reading::{Halves, halves_of, odd_mask};
+use phase_sum_reading::{halves_of, odd_mask};
 use phase_sum_stepping::{join_out, take_out, turn_out};
 use phase_sum_terms::reading::PhaseTerms;
 use phase_sum_terms::wires::Wires;
-use phase_sum_types::{Parity, Set, Sum};
+use phase_sum_types::{Halves, Parity, Set, Sum, Variable};
 
 // What must be 0 for a join: L with constant C/2.
-fn constraint_of(c: u8, l: Set) -> Parity
-    ensures { parity_of result ≡ constrained c (set_of l) }
+fn constraint_of(halves: Halves) -> Parity
+    ensures { parity_of result ≡ constrained halves.c (set_of halves.l) }
 {
     Parity {
-        set: l,
-        flipped: c / 2 % 2 == 1,
+        set: halves.l,
+        flipped: halves.c / 2 % 2 == 1,
     }
 }
 
@@ -41,77 +41,74 @@ enum Kind {
 
 // The kind of the step with this C and L.
 #[tactic(auto, unfolding(phase_sum_meaning::specs::Stepping::kind_of))]
-fn kind_of(c: u8, l: Set) -> Kind
-    ensures { kind_in result ≡ kind_of c (set_of l) }
+fn kind_of(halves: Halves) -> Kind
+    ensures { kind_in result ≡ kind_of halves.c (set_of halves.l) }
 {
-    if c % 2 == 1 {
+    if halves.c % 2 == 1 {
         return Kind::Turn;
     }
-    if c == 0 && l.is_empty() {
+    if halves.c == 0 && halves.l.is_empty() {
         return Kind::Sum;
     }
     Kind::Constraint
 }
 
-// The step at a variable y left, whose C and L are given: a sum, a turn, or a join that replaces z.
+// The step at a variable y left, whose C and L are given: a sum, a turn, or a join that replaces z; or, where there is no z to join, the parity
+// that blocks it, and nothing has changed.
 pub fn step_at(
     now: Progress,
-    y: u32,
-    z: u32,
-    c: u8,
-    l: Set,
+    y: Variable,
+    z: Option<Variable>,
+    halves: Halves,
     wires: &mut Wires,
     sets: &mut [u64],
     coeffs: &mut [u8],
-) -> Progress
-    requires { (bit y (set_of now.sum.live) ≡ true) × (y < most_variables) × (z < most_variables) × CountedTo most_variables now.counts × Sized now.sum (lent wires.old sets.old coeffs.old) × Level sets.old coeffs.old }
-    ensures { StepsTo y z c (set_of l) now result (lent wires.old sets.old coeffs.old) (lent wires.new sets.new coeffs.new) }
+) -> Result<Progress, Parity>
+    requires { (bit y (set_of now.sum.live) ≡ true) × CountedTo most_variables now.counts × Sized now.sum (lent wires.old sets.old coeffs.old) × Level sets.old coeffs.old }
+    ensures { StepsTo y (found_of z) halves.c (set_of halves.l) now result (lent wires.old sets.old coeffs.old) (lent wires.new sets.new coeffs.new) }
 {
     let Progress { sum, counts } = now;
-    match kind_of(c, l) {
-        Kind::Sum => Progress {
+    match kind_of(halves) {
+        Kind::Sum => Ok(Progress {
             sum: take_out(sum, y, sets, coeffs),
             counts: counts.add_sum(),
-        },
-        Kind::Turn => Progress {
-            sum: turn_out(sum, y, c, l, sets, coeffs),
+        }),
+        Kind::Turn => Ok(Progress {
+            sum: turn_out(sum, y, halves, sets, coeffs),
             counts: counts.add_turn(),
-        },
+        }),
         Kind::Constraint => {
-            let p = rest_of(constraint_of(c, l), z);
-            Progress {
-                sum: join_out(sum, y, z, p, wires, sets, coeffs),
-                counts: counts.add_join(),
+            let constraint = constraint_of(halves);
+            match z {
+                Some(z) => Ok(Progress {
+                    sum: join_out(sum, y, z, rest_of(constraint, z), wires, sets, coeffs),
+                    counts: counts.add_join(),
+                }),
+                None => Err(constraint),
             }
         }
     }
 }
 
-// The step at a ready variable y, where a join replaces the lowest variable left of L; or, where there is none, the parity that blocks it,
-// and nothing has changed.
+// The step at a ready variable y, where a join replaces the lowest variable left of L.
 fn step(
     now: Progress,
-    y: u32,
+    y: Variable,
     wires: &mut Wires,
     sets: &mut [u64],
     coeffs: &mut [u8],
 ) -> Result<Progress, Parity>
-    requires { (bit y (set_of now.sum.live) ≡ true) × (y < most_variables) × CountedTo most_variables now.counts × Sized now.sum (lent wires.old sets.old coeffs.old) × Level sets.old coeffs.old }
+    requires { (bit y (set_of now.sum.live) ≡ true) × CountedTo most_variables now.counts × Sized now.sum (lent wires.old sets.old coeffs.old) × Level sets.old coeffs.old }
     ensures { StepsAt y now result (lent wires.old sets.old coeffs.old) (lent wires.new sets.new coeffs.new) }
 {
-    let sum = now.sum;
-    let Halves { c, l } = halves_of(&PhaseTerms::new(sets, coeffs, sum.phase), y);
-    match sum.live.without(y).lowest_in(l) {
-        Some(z) => Ok(step_at(now, y, z, c, l, wires, sets, coeffs)),
-        None => match kind_of(c, l) {
-            Kind::Constraint => Err(constraint_of(c, l)),
-            Kind::Sum | Kind::Turn => Ok(step_at(now, y, y, c, l, wires, sets, coeffs)),
-        },
-    }
+    let Sum { live, phase } = now.sum;
+    let halves = halves_of(&PhaseTerms::new(sets, coeffs, phase), y);
+    let z = live.without(y).lowest_in(halves.l);
+    step_at(now, y, z, halves, wires, sets, coeffs)
 }
 
 // The lowest ready variable: left, and in no term of odd coefficient.
-fn ready(live: Set, terms: &PhaseTerms) -> Option<u32>
+fn ready(live: Set, terms: &PhaseTerms) -> Option<Variable>
     ensures { found_of result ≡ first_ready (members (set_of live)) terms.now.terms }
 {
     live.lowest_out(odd_mask(terms))
@@ -126,20 +123,12 @@ pub fn reduce(pinned: Progress, wires: &mut Wires, sets: &mut [u64], coeffs: &mu
     for _ in 0..pinned.sum.live.count() {
         let Sum { live, phase } = reached.sum;
         let Some(y) = ready(live, &PhaseTerms::new(sets, coeffs, phase)) else {
-            break;
+            return End::stops_at(reached);
         };
         match step(reached, y, wires, sets, coeffs) {
             Ok(next) => reached = next,
-            Err(by) => {
-                return End {
-                    blocked: Some(by),
-                    reached,
-                };
-            }
+            Err(by) => return End::blocked_at(reached, by),
         }
     }
-    End {
-        blocked: None,
-        reached,
-    }
+    End::stops_at(reached)
 }

@@ -36,12 +36,12 @@ use Rattle.comparison_meaning.proofs.Bytes.{demands_pair}
 use Rattle.record_format.specs.Pair.{PairFault}
 use Rattle.comparison_types.specs.Call.{says, refuses, result_of, said_of, pair_rows, workspace_rows, pair_fault, compare_read, unless_fault, comparison}
 use Rattle.comparison_types.specs.Clauses.{ForResult, Right, Sound, Stops, Inputs, Clifford, CountsUp}
-use Rattle.comparison_types.specs.Inner.{AcceptedWith, PairRead}
+use Rattle.comparison_types.specs.Inner.{GatesRead, PairRead}
 use Rattle.comparison_types.specs.declared.Outcome.{Outcome}
 use Rattle.comparison_types.specs.declared.Refusal.{Refusal}
 use Rattle.comparison_types.specs.declared.Pair.{Pair}
 use Rattle.phase_sum_types.proofs.Running.{AsLong}
-use Rattle.comparison_types.proofs.PairLaws.{part_of, gates_of}
+use Rattle.comparison_types.proofs.PairLaws.{part_of, gates_read}
 
 -- a sum that was built of two lists where there is room for them has room to be reduced
 pub built_sized :
@@ -82,15 +82,15 @@ pub refusal_said :
     refuses f ≡ comparison s t w c
 refusal_said s t w c found = rw (← found)
 
--- a pair that the checks let pass: two accepted lists on n qubits, of g and h gates, with no more variables than a pair may have, and
+-- a pair that the checks let pass: two accepted lists on n qubits, their gate bytes, no more variables than a pair may have, and
 -- workspaces with all their words and bytes
-pub record Passed (s t ss cs : List ℕ) (n g h : ℕ) : Type 0 where
-  pub first : AcceptedWith n g s
-  pub second : AcceptedWith n h t
-  pub variables : n + (h_gates first.gates + h_gates second.gates) ≤ most_variables
+pub record Passed (s t ss cs : List ℕ) (n : ℕ) (part part' : List ℕ) : Type 0 where
+  pub first : GatesRead n s part
+  pub second : GatesRead n t part'
+  pub variables : n + (h_gates first.list.gates + h_gates second.list.gates) ≤ most_variables
   pub sets : set_words ≤ length ss
   pub coeffs : places ≤ length cs
-  pub said : comparison s t (length ss) (length cs) ≡ says (compare 0 n first.gates second.gates)
+  pub said : comparison s t (length ss) (length cs) ≡ says (compare 0 n first.list.gates second.list.gates)
 
 -- two conditions of which neither holds
 neither : (a b : Bool) → (a || b) ≡ false → (a ≡ false) × (b ≡ false)
@@ -102,15 +102,15 @@ pub pair_passes :
     (s t ss cs : List ℕ) {p : Pair} →
     none ≡ pair_fault (read s) (read t) (workspace_rows (length ss) (length cs)) →
     PairRead s t p →
-    Passed s t ss cs p.n p.g p.h
+    Passed s t ss cs p.n p.first.now p.second.now
 unfolding pair_fault compare_read
 pair_passes s t ss cs {p} found lists =
     let n = p.n in
-    let gs = lists.first.gates in
-    let hs = lists.second.gates in
+    let gs = lists.first.list.gates in
+    let hs = lists.second.list.gates in
     let below = workspace_rows (length ss) (length cs) in
     let fault : pair_fault (read s) (read t) below ≡ none = sym found in
-    let rows = (none_holds (pair_rows n n gs hs ++ below)).0 (rw (lists.first.reads, lists.second.reads) at fault) in
+    let rows = (none_holds (pair_rows n n gs hs ++ below)).0 (rw (lists.first.list.reads, lists.second.list.reads) at fault) in
     let sizes = neither (ltb (length ss) set_words) (ltb (length cs) places) rows.1.1.0 in
     record {
       first = lists.first;
@@ -118,41 +118,30 @@ pair_passes s t ss cs {p} found lists =
       variables = ltb-false most_variables (n + (h_gates gs + h_gates hs)) rows.1.0;
       sets = ltb-false (length ss) set_words sizes.0;
       coeffs = ltb-false (length cs) places sizes.1;
-      said = rw (fault, lists.first.reads, lists.second.reads);
+      said = rw (fault, lists.first.list.reads, lists.second.list.reads);
     }
 
 -- the gate bytes of a pair that passes
-module _
-    {s t ss cs : List ℕ} {n g h : ℕ} (pass : Passed s t ss cs n g h)
-    {part part' : List ℕ} (is : part ≡ take (gate_size * g) (drop head_size s)) (is' : part' ≡ take (gate_size * h) (drop head_size t))
-  where
-    -- the first stand for the first list's gates
-    gates_first : gates_in part ≡ pass.first.gates
-    gates_first = rw is (gates_of pass.first)
+module _ {s t ss cs : List ℕ} {n : ℕ} {part part' : List ℕ} (pass : Passed s t ss cs n part part') where
+  -- the first words are those of whole sets, as many as there are first bytes
+  pub pass_level : Level (take set_words ss) (take places cs)
+  pass_level = rw (length-take-le set_words ss pass.sets, length-take-le places cs pass.coeffs)
 
-    -- the second for the second's
-    gates_second : gates_in part' ≡ pass.second.gates
-    gates_second = rw is' (gates_of pass.second)
+  -- they can be built in the first places
+  pub pass_fits : Buildable n part part' (sets_in words_each (take set_words ss)) (take places cs)
+  pass_fits =
+      let list = pass.first.list in
+      let other = pass.second.list in
+      let bytes : length (take places cs) ≡ places = length-take-le places cs pass.coeffs in
+      let sets : length (sets_in words_each (take set_words ss)) ≡ places =
+      level_places (take set_words ss) (take places cs) pass_level ∙ bytes in
+      rw (pass.first.part, pass.second.part, part_of list, part_of other)
+      (buildable s t n list.gates other.gates (sets_in words_each (take set_words ss)) (take places cs) list.reads other.reads
+      pass.variables (rw sets (le_refl places)) (rw bytes (le_refl places)))
 
-    -- the first words are those of whole sets, as many as there are first bytes
-    pub pass_level : Level (take set_words ss) (take places cs)
-    pass_level = rw (length-take-le set_words ss pass.sets, length-take-le places cs pass.coeffs)
-
-    -- they can be built in the first places
-    pub pass_fits : Buildable n part part' (sets_in words_each (take set_words ss)) (take places cs)
-    pass_fits =
-        let list = pass.first in
-        let other = pass.second in
-        let bytes : length (take places cs) ≡ places = length-take-le places cs pass.coeffs in
-        let sets : length (sets_in words_each (take set_words ss)) ≡ places =
-        level_places (take set_words ss) (take places cs) pass_level ∙ bytes in
-        rw (is, is', part_of list, part_of other)
-        (buildable s t n list.gates other.gates (sets_in words_each (take set_words ss)) (take places cs) list.reads other.reads
-        pass.variables (rw sets (le_refl places)) (rw bytes (le_refl places)))
-
-    -- comparing them gives what is said of the pair
-    pub pass_said : {o : Result} → o ≡ compare 0 n (gates_in part) (gates_in part') → says o ≡ comparison s t (length ss) (length cs)
-    pass_said {o} e = ap says (rw (gates_first, gates_second) at e) ∙ sym pass.said
+  -- comparing them gives what is said of the pair
+  pub pass_said : {o : Result} → o ≡ compare 0 n (gates_in part) (gates_in part') → says o ≡ comparison s t (length ss) (length cs)
+  pass_said {o} e = ap says (rw (gates_read pass.first, gates_read pass.second) at e) ∙ sym pass.said
 
 -- the clauses of an answer that says what the comparison of two records says
 module _ (s t : List ℕ) (w c : ℕ) (a : Returned Outcome Refusal) (said : said_of a ≡ comparison s t w c) where

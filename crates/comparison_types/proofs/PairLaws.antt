@@ -24,7 +24,7 @@ use Rattle.gate_counting.proofs.Tallying.{h_gates_few}
 use Rattle.phase_sum_meaning.specs.Room.{most_variables, places, set_words}
 use Rattle.record_format.specs.Pair.{PairFault, in_first, in_second, of_pair}
 use Rattle.comparison_types.specs.Call.{pair_rows, workspace_rows, pair_fault}
-use Rattle.comparison_types.specs.Inner.{AcceptedWith}
+use Rattle.comparison_types.specs.Inner.{AcceptedWith, GatesRead}
 
 -- a check that answered n and g accepts the record, with these
 pub accepted_with : (s : List ℕ) {n g : ℕ} → gives (n ∷ g ∷ []) ≡ check_answer (read s) → AcceptedWith n g s
@@ -55,6 +55,10 @@ module _ {n g : ℕ} {s : List ℕ} (list : AcceptedWith n g s) where
   -- what was counted over them are its H gates
   pub h_counted : {bytes : List ℕ} {k : ℕ} → bytes ≡ take (gate_size * g) (drop head_size s) → k ≡ h_gates (gates_in bytes) → k ≡ h_gates list.gates
   h_counted is counted = counted ∙ ap (λ b. h_gates (gates_in b)) is ∙ ap h_gates gates_of
+
+-- the gate bytes of a list that was read stand for its gates
+pub gates_read : {n : ℕ} {s bytes : List ℕ} (it : GatesRead n s bytes) → gates_in bytes ≡ it.list.gates
+gates_read it = rw it.part (gates_of it.list)
 
 -- a check that answered a refusal refuses the record, by its fault
 refused_by_lem : (s : List ℕ) (f : Fault) → refuses f ≡ check_answer (read s) → read s ≡ refused f

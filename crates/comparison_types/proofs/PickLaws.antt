@@ -7,7 +7,7 @@ use native.Mathlib.Omega.{arith}
 use mathlib.Core.Bool.{Bool, true, false, cond, ◌&&◌, ◌||◌, and-eq-true_iff}
 use mathlib.Core.List.{List, []}
 use Rattle.std.specs.Prelude.{Result as Returned, Ok, Err}
-use lib.ListN.{length, get_or, take, drop, length-take, length-map}
+use lib.ListN.{length, get_or, take, drop, length-take, length-drop, length-map}
 use lib.Seq.{get_or-take, take-take, take-add, drop_at}
 use lib.Dec.{ltb, eqb}
 use borrow.Author.Tests.{ltb-true, lt-ltb, le-ltb, eqb-true, eq-eqb, ne_eqb}
@@ -25,18 +25,31 @@ use Rattle.record_format.specs.Pair.{PairFault, of_pair}
 use Rattle.phase_sum_meaning.specs.Room.{places, set_words}
 use Rattle.comparison_types.specs.Call.{fault_of, Said, says, refuses, verdict_of, result_of, said_of, workspace_rows, pair_fault, compare_read, unless_fault, comparison, left_by, better, Choice, the_first, the_second, nothing, is_equal, choice, picked, own_bytes, picked_part, picked_at}
 use Rattle.comparison_types.specs.Clauses.{Sound, PickIsRight, EmptyIfRefused}
-use Rattle.comparison_types.specs.Inner.{AcceptedWith, ComparedRead}
+use Rattle.comparison_types.specs.Inner.{AcceptedWith, GatesRead, ComparedRead}
 use Rattle.comparison_types.specs.declared.Verdict.{Verdict}
 use Rattle.comparison_types.specs.declared.Verdict.TheVariants.{Equal, Different, Undecided, Turned}
 use Rattle.comparison_types.specs.declared.Refusal.{Refusal}
 use Rattle.comparison_types.specs.declared.Outcome.{Outcome}
 use Rattle.comparison_types.specs.declared.Compared.{Compared}
-use Rattle.comparison_types.proofs.PairLaws.{head_of, gates_of}
+use Rattle.comparison_types.proofs.PairLaws.{head_of, whole_of, gates_read}
 use Rattle.comparison_types.proofs.ClauseLaws.{sound_said}
 
 -- the record at the start of an accepted list's bytes is its own
 own_of : {n g : ℕ} {s : List ℕ} → AcceptedWith n g s → take (size g) s ≡ own_bytes s
 own_of list = rw (head_of list).g_is
+
+-- the same, by its gate bytes, with which the record ends
+module _ {n : ℕ} {s bytes : List ℕ} (it : GatesRead n s bytes) where
+  long_read : head_size + length bytes ≡ size it.g
+  long_read =
+      let whole = whole_of it.list in
+      rw it.part (simp (length-take, length-drop) (omega arith))
+
+  pub whole_read : head_size + length bytes ≤ length s
+  whole_read = rw long_read (whole_of it.list)
+
+  own_read : take (head_size + length bytes) s ≡ own_bytes s
+  own_read = rw long_read (own_of it.list)
 
 module _ (s : List ℕ) (n : ℕ) (gs : List Gate) (e : read s ≡ accepted n gs) where
   -- an accepted record's bytes have it whole
@@ -273,29 +286,21 @@ module _ {ℓ} {B : Type ℓ} (s t ss cs ss' cs' : List ℕ) (p q : B) where
       (said : says (result_of c.outcome) ≡ comparison s t (length ss) (length cs))
       (kept : (ss' ≡ left_by set_words (says (result_of c.outcome)) ss) × (cs' ≡ left_by places (says (result_of c.outcome)) cs))
       (lists : ComparedRead s t c)
-      {part part' : List ℕ}
-      (first : part ≡ take (gate_size * c.g) (drop head_size s))
-      (second : part' ≡ take (gate_size * c.h) (drop head_size t))
     where
       -- whether the second is taken says which
-      taken : {b : Bool} → b ≡ (is_equal (verdict_of c.outcome.verdict) && better (gates_in part) (gates_in part'))
+      taken : {b : Bool} → b ≡ (is_equal (verdict_of c.outcome.verdict) && better (gates_in c.first.now) (gates_in c.second.now))
           → picked s t (length ss) (length cs) ≡ cond b the_second the_first
       taken answer =
-          picked_by s t (length ss) (length cs) lists.n lists.first.gates lists.second.gates (result_of c.outcome) _
-          (record { reads_first = lists.first.reads; reads_second = lists.second.reads })
+          picked_by s t (length ss) (length cs) lists.n lists.first.list.gates lists.second.list.gates (result_of c.outcome) _
+          (record { reads_first = lists.first.list.reads; reads_second = lists.second.list.reads })
           (sym said)
-          (rw (first, second, gates_of lists.first, gates_of lists.second) at answer)
+          (rw (gates_read lists.first, gates_read lists.second) at answer)
 
-      pub pick_first : {r : B} {out : List ℕ}
-          → false ≡ (is_equal (verdict_of c.outcome.verdict) && better (gates_in part) (gates_in part'))
-          → out ≡ take (size c.g) s
-          → r ≡ p
+      -- the record that was taken
+      pub pick_one : (b : Bool) {r : B} {out : List ℕ}
+          → b ≡ (is_equal (verdict_of c.outcome.verdict) && better (gates_in c.first.now) (gates_in c.second.now))
+          → out ≡ take (head_size + length (cond b c.second.now c.first.now)) (cond b t s)
+          → r ≡ cond b q p
           → PickMet s t ss cs ss' cs' p q r out
-      pick_first answer content own = rw (content, own, own_of lists.first) (picks (Ok c.outcome) the_first said kept (taken answer))
-
-      pub pick_second : {r : B} {out : List ℕ}
-          → true ≡ (is_equal (verdict_of c.outcome.verdict) && better (gates_in part) (gates_in part'))
-          → out ≡ take (size c.h) t
-          → r ≡ q
-          → PickMet s t ss cs ss' cs' p q r out
-      pick_second answer content own = rw (content, own, own_of lists.second) (picks (Ok c.outcome) the_second said kept (taken answer))
+      pick_one true answer content own = rw (content, own, own_read lists.second) (picks (Ok c.outcome) the_second said kept (taken answer))
+      pick_one false answer content own = rw (content, own, own_read lists.first) (picks (Ok c.outcome) the_first said kept (taken answer))

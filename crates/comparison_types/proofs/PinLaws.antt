@@ -7,38 +7,21 @@ use native.Mathlib.Numerals.{add-one}
 use native.Mathlib.Omega.{arith}
 use mathlib.Core.Bool.{true, false}
 use mathlib.Core.Option.{none, some}
-use Rattle.std.specs.Prelude.{Some}
 use lib.ListN.{length}
-use Rattle.amplitude.proofs.BitLaws.{bit_zero}
-use Rattle.amplitude.proofs.XorLaws.{xor_falseʳ}
-use Rattle.phase_sum_meaning.specs.Sets.{◌△◌, single, first_in}
-use Rattle.phase_sum_meaning.specs.Parity.{Parity, ◌⊕◌, rest}
-use Rattle.phase_sum_meaning.specs.Building.{PathSum, input}
+use Rattle.phase_sum_meaning.specs.Sets.{first_in}
+use Rattle.phase_sum_meaning.specs.Parity.{Parity, rest}
+use Rattle.phase_sum_meaning.specs.Building.{PathSum}
 use Rattle.phase_sum_meaning.specs.Stepping.{replace}
-use Rattle.phase_sum_meaning.specs.Room.{most_variables}
-use Rattle.phase_sum_meaning.proofs.VariableLaws.{first_such_some}
 use Rattle.phase_sum_types.specs.Workspace.{set_of, parity_of, Lent, members, sum_of, Became, Sized}
 use Rattle.phase_sum_types.specs.declared.Parity.{Parity as ParityWord}
 use Rattle.phase_sum_types.specs.declared.Sum.{Sum}
-use Rattle.phase_sum_types.proofs.Members.{member_held}
 use Rattle.phase_sum_types.proofs.Running.{AsLong}
 use Rattle.phase_sum_types.proofs.Changing.{room-replace, still_sized}
 use Rattle.comparison_meaning.specs.Reduction as reduction
 use Rattle.comparison_meaning.specs.Reduction.{add_pin, is_zero, mismatch, pin_from, pinned, blocks}
-use Rattle.comparison_types.specs.Inner.{counts_of, no_steps, stops_at, CountedTo, PinsQubit, BlocksQubit, PinnedAll}
+use Rattle.comparison_types.specs.Inner.{counts_of, no_steps, stops_at, blocked_at, CountedTo, PinsQubit, BlocksQubit, PinnedAll}
 use Rattle.comparison_types.specs.declared.Counts.{Counts}
 use Rattle.comparison_types.specs.declared.Progress.{Progress}
-
--- a wire with input q added
-pub with_input :
-    (w : ParityWord) (q : ℕ) →
-    ◌≡◌ {A = Parity} (record { vars = set_of w.set △ single q; flipped = w.flipped }) (parity_of w ⊕ input 0 q)
-unfolding ◌⊕◌ input
-with_input w q = rw (bit_zero q, xor_falseʳ w.flipped)
-
--- a variable found among those left is one that a pair may have
-pub found_below : (live s z : ℕ) → first_in (members live) s ≡ some z → z < most_variables
-found_below live s z e = (member_held live z (first_such_some _ (members live) z e).0).1
 
 -- where a variable left is in the mismatch p, it is replaced
 pin_found :
@@ -169,7 +152,7 @@ module _
         }
 
     -- where it is blocked, pinning ends
-    pub pinned_blocked : {w : ParityWord} {l₂ : Lent} → BlocksQubit q p w l₁ l₂ → PinnedAll s (record { blocked = Some w; reached = p }) l l₂
+    pub pinned_blocked : {w : ParityWord} {l₂ : Lent} → BlocksQubit q p w l₁ l₂ → PinnedAll s (blocked_at p w) l l₂
     pinned_blocked one =
         record {
           end = rw one.same (sym (to.left ∙ rw more (one.ends _)));

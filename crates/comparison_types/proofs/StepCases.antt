@@ -5,7 +5,6 @@ use Prim.Native.Nat.{ℕ, zero, suc, ◌+◌, ◌-◌, ◌≤◌, ◌<◌}
 use mathlib.Core.Bool.{Bool, true, not}
 use mathlib.Core.List.{List, [], ◌∷◌}
 use mathlib.Core.Option.{Option, none, some}
-use Rattle.std.specs.Prelude.{Some}
 use native.Mathlib.Omega.{arith}
 use lib.ListN.{length}
 use Rattle.amplitude.specs.Bits.{bit}
@@ -22,7 +21,7 @@ use Rattle.comparison_meaning.specs.Reduction as reduction
 use Rattle.phase_sum_types.specs.declared.Sum.{Sum}
 use Rattle.phase_sum_types.specs.declared.Parity.{Parity as ParityWord}
 use Rattle.comparison_types.specs.declared.Progress.{Progress}
-use Rattle.comparison_types.specs.Inner.{counts_of, stops_at, CountedTo, step_to, Steps, BlocksStep, ReducedTo}
+use Rattle.comparison_types.specs.Inner.{counts_of, stops_at, blocked_at, CountedTo, step_to, Steps, BlocksStep, ReducedTo}
 use Rattle.phase_sum_types.proofs.Members.{member_held, members-without, members_few}
 
 -- tests that agree find the same number
@@ -70,7 +69,7 @@ unfolding step_with
 step_join y k l s c z e f = rw (e, f, step_with)
 
 -- what a constraint gives whose set holds none
-pub step_stuck :
+step_stuck :
     (y k l : ℕ) (s : PathSum) (c : reduction.Counts) →
     kind_of k l ≡ constraint →
     first_in (take_out y s).live l ≡ none →
@@ -78,41 +77,24 @@ pub step_stuck :
 unfolding step_with
 step_stuck y k l s c e f = rw (e, f, step_with)
 
--- where L holds a variable left, the lowest of them is the z of the step
-pub step_chosen :
-    (y k l : ℕ) (s : PathSum) (c : reduction.Counts) (z : ℕ) →
-    first_in (take_out y s).live l ≡ some z →
-    step_to y z k l s c ≡ step_with y k l s c
-unfolding step_to
-step_chosen y k l s c z found = go (kind_of k l) refl
-  where
-    go : (t : Kind) → kind_of k l ≡ t → step_to y z k l s c ≡ step_with y k l s c
-    go sum e = rw (e, step_to) (sym (step_sum y k l s c e))
-    go turn e = rw (e, step_to) (sym (step_turn y k l s c e))
-    go constraint e = rw (e, step_to) (sym (step_join y k l s c z e found))
+-- where a join replaces the lowest variable left of L, or is blocked if there is none, the step is the definition's
+pub step_lowest :
+    (y k l : ℕ) (s : PathSum) (c : reduction.Counts) →
+    step_to y (first_in (take_out y s).live l) k l s c ≡ step_with y k l s c
+unfolding step_to step_with
+step_lowest y k l s c = refl
 
--- where it holds none and the step asks for none, any will do
-pub step_unchosen :
-    (y k l : ℕ) (s : PathSum) (c : reduction.Counts) (z : ℕ) →
-    (kind_of k l ≡ constraint → ⊥) →
-    step_to y z k l s c ≡ step_with y k l s c
-unfolding step_to
-step_unchosen y k l s c z other = go (kind_of k l) refl
-  where
-    go : (t : Kind) → kind_of k l ≡ t → step_to y z k l s c ≡ step_with y k l s c
-    go sum e = rw (e, step_to) (sym (step_sum y k l s c e))
-    go turn e = rw (e, step_to) (sym (step_turn y k l s c e))
-    go constraint e = absurd (other e)
-
--- the step at y and z is a sum
+-- the step at y, where a join replaces z if there is one, is a sum
 pub sum_to :
-    (y z k l : ℕ) (s : PathSum) (c : reduction.Counts) → kind_of k l ≡ sum → step_to y z k l s c ≡ goes (take_out y s) (add_sum c)
+    (y : ℕ) (z : Option ℕ) (k l : ℕ) (s : PathSum) (c : reduction.Counts) →
+    kind_of k l ≡ sum →
+    step_to y z k l s c ≡ goes (take_out y s) (add_sum c)
 unfolding step_to
 sum_to y z k l s c e = rw (e, step_to)
 
 -- it is a turn
 pub turn_to :
-    (y z k l : ℕ) (s : PathSum) (c : reduction.Counts) →
+    (y : ℕ) (z : Option ℕ) (k l : ℕ) (s : PathSum) (c : reduction.Counts) →
     kind_of k l ≡ turn →
     step_to y z k l s c ≡ goes (turned k l (take_out y s)) (add_turn c)
 unfolding step_to
@@ -122,9 +104,17 @@ turn_to y z k l s c e = rw (e, step_to)
 pub join_to :
     (y z k l : ℕ) (s : PathSum) (c : reduction.Counts) →
     kind_of k l ≡ constraint →
-    step_to y z k l s c ≡ goes (replace z (rest z (constrained k l)) (take_out y s)) (add_join c)
+    step_to y (some z) k l s c ≡ goes (replace z (rest z (constrained k l)) (take_out y s)) (add_join c)
 unfolding step_to
 join_to y z k l s c e = rw (e, step_to)
+
+-- it is blocked
+pub stuck_to :
+    (y k l : ℕ) (s : PathSum) (c : reduction.Counts) →
+    kind_of k l ≡ constraint →
+    step_to y none k l s c ≡ stuck (constrained k l)
+unfolding step_to
+stuck_to y k l s c e = rw (e, step_to)
 
 -- the first variable left besides y, as the code finds it
 pub found_left :
@@ -238,7 +228,7 @@ module _ (p₀ : Progress) (p : Progress) (l l' : Lent) (done : ℕ) (going : Go
     split = omega arith
 
     -- it goes
-    pub going_on : {r : Progress} → Steps y p r l' l'' → Going p₀ l (done + 1) r l''
+    pub going_on : {r : Progress} → Steps (step_at y (sum_of p.sum l') (counts_of p.counts)) r l'' → Going p₀ l (done + 1) r l''
     going_on {r} to =
         let one = counted_step y _ _ _ _ _ _ to.next in
         let now = reduce_goes (left_in p₀.sum - (done + 1)) y _ _ _ _ ready to.next in
@@ -250,7 +240,8 @@ module _ (p₀ : Progress) (p : Progress) (l l' : Lent) (done : ℕ) (going : Go
         }
 
     -- it is blocked
-    pub going_blocked : {w : ParityWord} → BlocksStep y p w l' l'' → ReducedTo p₀ (record { blocked = Some w; reached = p }) l l''
+    pub going_blocked :
+        {w : ParityWord} → BlocksStep (step_at y (sum_of p.sum l') (counts_of p.counts)) w l' l'' → ReducedTo p₀ (blocked_at p w) l l''
     going_blocked to =
         let now = reduce_stuck (left_in p₀.sum - (done + 1)) y _ _ _ ready to.stuck in
         record {

@@ -1,8 +1,9 @@
 -- What the layer's private functions do, for their contracts. No contract of a public call cites anything of this file.
 -- Assumes nothing.
-use Rattle.std.specs.Prelude.{◌≡◌, ℕ, suc, ◌+◌, ◌≤◌, List, length, map, Option as Found, Some, None, Result as Returned, Ok, Err, MatchResult}
+use Rattle.std.specs.Prelude.{◌≡◌, ℕ, suc, ◌+◌, ◌*◌, ◌≤◌, List, length, take, drop, map, Option as Found, Some, None, Result as Returned, Ok, Err, MatchResult}
 use Rattle.std.proofs.Math.Option.{Option, none, some}
 use Rattle.record_format.specs.Gate.{Gate}
+use Rattle.record_format.specs.Format.{head_size, gate_size}
 use Rattle.record_format.specs.Reading.{accepted, read}
 use Rattle.phase_sum_meaning.specs.Parity.{Parity, rest}
 use Rattle.phase_sum_meaning.specs.Phase.{Phase}
@@ -45,6 +46,10 @@ end_of e l =
 abbrev pub stops_at : Progress → End
 stops_at p = record { blocked = None; reached = p }
 
+-- it stops at p, which the parity w blocks
+abbrev pub blocked_at : Progress → ParityWord → End
+blocked_at p w = record { blocked = Some w; reached = p }
+
 -- the next sum and counts that p and what is lent stand for
 abbrev pub next_of : Progress → Lent → reduction.Next
 next_of p l = reduction.goes (sum_of p.sum l) (counts_of p.counts)
@@ -56,13 +61,16 @@ pub record CountedTo (k : ℕ) (c : Counts) : Type 0 where
   pub turns : c.turns ≤ k
   pub joins : c.joins ≤ k
 
--- the step at a ready y, its C and L given, where a join replaces z
-unfoldable pub step_to : ℕ → ℕ → ℕ → ℕ → PathSum → reduction.Counts → reduction.Next
-step_to y z k l s c =
+-- the step at a ready y, its C and L given, where a join replaces z, or is blocked if there is none
+unfoldable pub step_to : ℕ → Option ℕ → ℕ → ℕ → PathSum → reduction.Counts → reduction.Next
+step_to y o k l s c =
     elim (kind_of k l) [
       | sum ↦ reduction.goes (take_out y s) (reduction.add_sum c)
       | turn ↦ reduction.goes (turned k l (take_out y s)) (reduction.add_turn c)
-      | constraint ↦ reduction.goes (replace z (rest z (constrained k l)) (take_out y s)) (reduction.add_join c)
+      | constraint ↦ elim o [
+        | some z ↦ reduction.goes (replace z (rest z (constrained k l)) (take_out y s)) (reduction.add_join c)
+        | none ↦ reduction.stuck (constrained k l)
+      ]
     ]
 
 -- qubit q pinned takes p to r: what is left to pin is what the definition has left
@@ -92,24 +100,27 @@ pub record PinnedAll (s : Sum) (e : End) (l l' : Lent) : Type 0 where
   pub sized : Sized e.reached.sum l'
   pub steps : CountedTo 0 e.reached.counts
 
--- the step at y and z takes p to r, where C is k and L is u
-pub record StepsTo (y z k u : ℕ) (p r : Progress) (l l' : Lent) : Type 0 where
-  pub next : next_of r l' ≡ step_to y z k u (sum_of p.sum l) (counts_of p.counts)
+-- a step that the definition takes to d goes to r
+pub record Steps (d : reduction.Next) (r : Progress) (l' : Lent) : Type 0 where
+  pub next : next_of r l' ≡ d
   pub sized : Sized r.sum l'
 
--- the step at y takes p to r
-pub record Steps (y : ℕ) (p r : Progress) (l l' : Lent) : Type 0 where
-  pub next : next_of r l' ≡ reduction.step_at y (sum_of p.sum l) (counts_of p.counts)
-  pub sized : Sized r.sum l'
-
--- the parity w blocks the step at y, and nothing has changed
-pub record BlocksStep (y : ℕ) (p : Progress) (w : ParityWord) (l l' : Lent) : Type 0 where
-  pub stuck : reduction.stuck (parity_of w) ≡ reduction.step_at y (sum_of p.sum l) (counts_of p.counts)
+-- a step that the definition takes to d is blocked by the parity w, and nothing has changed
+pub record BlocksStep (d : reduction.Next) (w : ParityWord) (l l' : Lent) : Type 0 where
+  pub stuck : reduction.stuck (parity_of w) ≡ d
   pub same : l' ≡ l
+
+-- what a step makes of a sum that the definition takes to d
+abbrev pub StepsAs : reduction.Next → Returned Progress ParityWord → Lent → Lent → Type 0
+StepsAs d r l l' = MatchResult r (λ next. Steps d next l') (λ by. BlocksStep d by l l')
+
+-- what the step at y makes of p where C is k and L is u, and a join replaces z
+abbrev pub StepsTo : ℕ → Option ℕ → ℕ → ℕ → Progress → Returned Progress ParityWord → Lent → Lent → Type 0
+StepsTo y z k u p r l l' = StepsAs (step_to y z k u (sum_of p.sum l) (counts_of p.counts)) r l l'
 
 -- what the step at y makes of p
 abbrev pub StepsAt : ℕ → Progress → Returned Progress ParityWord → Lent → Lent → Type 0
-StepsAt y p r l l' = MatchResult r (λ next. Steps y p next l l') (λ by. BlocksStep y p by l l')
+StepsAt y p r l l' = StepsAs (reduction.step_at y (sum_of p.sum l) (counts_of p.counts)) r l l'
 
 -- what the steps of p end in
 pub record ReducedTo (p : Progress) (e : End) (l l' : Lent) : Type 0 where
@@ -144,10 +155,16 @@ abbrev pub found_fault : Returned Pair Refusal → Option PairFault
 found_fault (Ok p) = none
 found_fault (Err r) = some (fault_of r)
 
--- a pair that passed was read: both lists are accepted, on n qubits, the first with g gates and the second with h
+-- a list is accepted, on n qubits, and these are its gate bytes
+pub record GatesRead (n : ℕ) (s bytes : List ℕ) : Type 0 where
+  pub g : ℕ
+  pub list : AcceptedWith n g s
+  pub part : bytes ≡ take (gate_size * g) (drop head_size s)
+
+-- a pair that passed was read: both lists are accepted, on its qubits, and it has the gate bytes of each
 pub record PairRead (s t : List ℕ) (p : Pair) : Type 0 where
-  pub first : AcceptedWith p.n p.g s
-  pub second : AcceptedWith p.n p.h t
+  pub first : GatesRead p.n s p.first.now
+  pub second : GatesRead p.n t p.second.now
 
 -- the answer that a comparison gives
 abbrev pub answer_of : Returned Compared Refusal → Returned Outcome Refusal
@@ -157,5 +174,5 @@ answer_of (Err r) = Err r
 -- a pair that was compared was read
 pub record ComparedRead (s t : List ℕ) (c : Compared) : Type 0 where
   pub n : ℕ
-  pub first : AcceptedWith n c.g s
-  pub second : AcceptedWith n c.h t
+  pub first : GatesRead n s c.first.now
+  pub second : GatesRead n t c.second.now

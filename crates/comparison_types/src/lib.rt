@@ -2,7 +2,7 @@
 // 01, "Reducing it", "Report, pick, builder" and "Where a call is turned down"; document 02, item 4. Licensees use `comparison`.
 #![tactic(auto)]
 
-ghost use Rattle.std.specs.Prelude.{◌≡◌, ◌<◌, Some};
+ghost use Rattle.std.specs.Prelude.{◌≡◌, ◌<◌, ◌≤◌, Some};
 ghost use Rattle.comparison_meaning.specs.Verdict.{agreement};
 ghost use Rattle.comparison_meaning.specs.Reduction.{add_pin, add_sum, add_turn, add_join};
 ghost use Rattle.comparison_types.specs.Call.{number_of, verdict_number, verdict_of, verdict_word, Reports};
@@ -11,6 +11,7 @@ ghost use Rattle.comparison_types.specs.Inner.{counts_of};
 use phase_sum_types::{Parity, Sum};
 use record_format::Report;
 use std::fmt;
+use std::marker::Model;
 
 // The four verdicts.
 #[derive(Clone, Copy, Debug, PartialEq, Eq)]
@@ -137,6 +138,42 @@ impl From<Outcome> for Report {
     }
 }
 
+// How many qubits: at most 16. Contracts see the number.
+#[derive(Clone, Copy, Debug, PartialEq, Eq)]
+pub struct Qubits {
+    count: u32,
+}
+
+impl Model for Qubits {
+    ghost use Rattle.std.specs.Prelude.{ℕ, ◌≤◌};
+
+    ghost Value = { ℕ };
+
+    ghost view = { λ n. n.count };
+
+    ghost invariant = { λ n. n.count ≤ 16 };
+
+    ghost inverse = { λ n. record { count = n } };
+}
+
+impl Qubits {
+    // So many qubits.
+    pub fn new(count: u32) -> Qubits
+        requires { count ≤ 16 }
+        ensures { result ≡ count }
+    {
+        Qubits { count }
+    }
+
+    // Their number.
+    pub fn count(self) -> u32
+        ensures count { result ≡ self }
+        ensures few { self ≤ 16 }
+    {
+        self.count
+    }
+}
+
 // How often each step was taken so far.
 #[derive(Clone, Copy, Default)]
 pub struct Counts {
@@ -211,18 +248,43 @@ pub struct End {
     pub reached: Progress,
 }
 
-// What the checks on a pair find: the qubits of both lists, the gates of the first and those of the second.
-#[derive(Clone, Copy, Debug, PartialEq, Eq)]
-pub struct Pair {
-    pub n: usize,
-    pub g: usize,
-    pub h: usize,
+impl End {
+    ghost use Rattle.comparison_types.specs.Inner.{stops_at, blocked_at};
+
+    // The end of steps that no parity blocks.
+    pub fn stops_at(reached: Progress) -> End
+        ensures { result ≡ stops_at reached }
+    {
+        End {
+            blocked: None,
+            reached,
+        }
+    }
+
+    // The end of steps that a parity blocks.
+    pub fn blocked_at(reached: Progress, by: Parity) -> End
+        ensures { result ≡ blocked_at reached by }
+    {
+        End {
+            blocked: Some(by),
+            reached,
+        }
+    }
 }
 
-// What comparing a pair gives: the outcome, the gates of the first list and those of the second.
-#[derive(Clone, Copy, Debug, PartialEq, Eq)]
-pub struct Compared {
+// What the checks on a pair find: the qubits of both lists, and the gate bytes of each.
+// Stays: of which records these are the bytes stands in the contracts, since a ghost field can not speak of the slices that were read.
+#[derive(Clone, Copy)]
+pub struct Pair<'a> {
+    pub n: usize,
+    pub first: &'a [u8],
+    pub second: &'a [u8],
+}
+
+// What comparing a pair gives: the outcome, and the gate bytes of each list.
+#[derive(Clone, Copy)]
+pub struct Compared<'a> {
     pub outcome: Outcome,
-    pub g: usize,
-    pub h: usize,
+    pub first: &'a [u8],
+    pub second: &'a [u8],
 }

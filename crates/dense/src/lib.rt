@@ -13,13 +13,12 @@ use comparison_types::agreement;
 pub use comparison_types::{Refusal, Verdict};
 use dense_checking::check_call;
 pub use dense_checking::{BLOCK_H_GATES, BLOCK_QUBITS};
-use dense_judging::{Judged, Lists, judge};
+use dense_judging::{Judged, judge};
 pub use dense_meaning::BUFFER_SIZE;
 pub use dense_types::Outcome;
-use record_reading::gate_bytes;
 
 // The outcome of what the columns show.
-// Stays: both types are of other crates, so that no From can stand here.
+// Stays: by a rule of the project dense_judging, where a From could stand, knows of no crate of path sums, and dense_types builds on some.
 fn outcome_of(judged: Judged) -> Outcome
     ensures { found_of result ≡ found (finding_in judged) }
 {
@@ -48,16 +47,6 @@ pub fn compare(first: &[u8], second: &[u8], buffer: &mut [i64]) -> Result<Outcom
     ensures inputs { Inputs first.now second.now result }
     ensures agrees { Agrees first.now second.now result }
 {
-    let block = check_call(first, second, buffer.len())?;
-    let lists = Lists {
-        n: block.n,
-        first: gate_bytes(first, block.g),
-        second: gate_bytes(second, block.h),
-        h: block.first_h,
-        k: block.second_h,
-    };
-    let Some(numbers) = buffer.first_chunk_mut::<BUFFER_SIZE>() else {
-        unreachable!()
-    };
-    Ok(outcome_of(judge(numbers, lists)))
+    let lists = check_call(first, second, buffer.len())?;
+    Ok(outcome_of(judge(&mut buffer[..BUFFER_SIZE], lists)))
 }

@@ -1,16 +1,19 @@
 -- Which of the call's own rows is the first that holds, for two accepted lists.
 -- Assumes nothing.
-use mathlib.Core.Path.{◌≡◌}
+use mathlib.Core.Path.{◌≡◌, sym, ap, ◌∙◌}
 use Prim.Native.Nat.{ℕ, ◌+◌, ◌<◌, ◌≤◌}
 use mathlib.Core.Option.{none, some}
 use mathlib.Core.List.{List}
+use native.Mathlib.Omega.{arith}
 use borrow.Author.Tests.{lt-ltb, le-ltb}
+use Rattle.record_format.specs.Gate.{AllWithin}
 use Rattle.record_format.specs.Row.{first}
-use Rattle.record_format.specs.Reading.{qubits, gates}
-use Rattle.record_format.proofs.Theorems.{passed}
+use Rattle.record_format.specs.Reading.{qubits, gates, gates_in}
+use Rattle.record_format.proofs.Theorems.{passed, accepted_is_sound}
 use Rattle.amplitude.specs.Circuit.{h_gates}
 use Rattle.record_format.specs.Pair.{of_pair}
-use Rattle.comparison_types.specs.Inner.{AcceptedWith}
+use Rattle.comparison_types.specs.Inner.{AcceptedWith, GatesRead}
+use Rattle.comparison_types.proofs.PairLaws.{gates_read, small}
 use Rattle.dense_meaning.specs.Limits.{block_qubits, block_h_gates, buffer_size}
 use Rattle.dense_types.specs.Call.{block_rows}
 
@@ -20,6 +23,22 @@ own_n {n} {g} {s} list = (passed s n list.gates list.reads).1
 
 pub own_gates : {n g : ℕ} {s : List ℕ} (list : AcceptedWith n g s) → gates s ≡ list.gates
 own_gates {n} {g} {s} list = (passed s n list.gates list.reads).2
+
+-- the gate bytes of a list that was read
+module _ {n : ℕ} {s bytes : List ℕ} (it : GatesRead n s bytes) where
+  -- their gates are on its qubits
+  pub within_read : AllWithin n (gates_in bytes)
+  within_read = rw (gates_read it) (accepted_is_sound s n it.list.gates it.list.reads).within
+
+  -- what was counted over them are its H gates
+  pub own_counted : {h : ℕ} → h ≡ h_gates (gates_in bytes) → h ≡ h_gates (gates s)
+  own_counted counted = counted ∙ ap h_gates (gates_read it ∙ sym (own_gates it.list))
+
+  -- and not many
+  pub few_counted : {h : ℕ} → h ≡ h_gates (gates_in bytes) → h ≤ 512
+  few_counted counted =
+      let same = counted ∙ ap h_gates (gates_read it) in
+      omega (arith, same, small it.list)
 
 module _ {n g : ℕ} {s : List ℕ} (list : AcceptedWith n g s) (t : List ℕ) (k : ℕ) where
   -- too many qubits

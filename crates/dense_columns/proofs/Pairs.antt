@@ -14,7 +14,7 @@ use Rattle.amplitude.specs.Number.{Zω}
 use Rattle.amplitude.specs.Bits.{bit, put}
 use Rattle.amplitude.specs.Circuit.{State}
 use Rattle.amplitude.proofs.BitLaws.{bit_put_same, put_put_same, put_bit, put_below}
-use Rattle.dense_columns.specs.Columns.{amplitude_at, stored, Turned}
+use Rattle.dense_columns.specs.Columns.{amplitude_at, stored, Room, Turned}
 use Rattle.dense_columns.proofs.Places.{length-stored, stored_same, stored_other}
 
 -- bit q by a shift and a remainder
@@ -58,39 +58,54 @@ pub record Pair (n q w high : ℕ) : Type 0 where
   pub joined : put q false high ≡ w
 
 -- as the code finds it
-pub pair_at : (n q w p : ℕ) → q < n → w < 2 ^ n → bit q w ≡ false → p ≡ 2 ^ q → Pair n q w (w + p)
-pair_at n q w p qn wn low e =
+pub pair_at : {n q w p : ℕ} → q < n → w < 2 ^ n → false ≡ bit q w → p ≡ 2 ^ q → Pair n q w (w + p)
+pair_at {n} {q} {w} {p} qn wn low e =
     record {
-      low = low;
+      low = sym low;
       is = is;
       below = wn;
       top = rw is (put_below n q true w qn wn);
-      own = put_own q false w low;
-      joined = rw is (put_put_same q false true w ∙ put_own q false w low);
+      own = put_own q false w (sym low);
+      joined = rw is (put_put_same q false true w ∙ put_own q false w (sym low));
     }
   where
     is : w + p ≡ put q true w
-    is = rw e (sym (upper q w low))
+    is = rw e (sym (upper q w (sym low)))
 
--- one turn of a pass along q: what F makes of the column is stored at both places of a pair
-pub pair_turned : {n q w high : ℕ} (F : State → State) (x y : Zω) (xs : List ℤ) → Pair n q w high → 4 * 2 ^ n ≤ length xs →
+-- both places of a pair are there, as the code finds it, and what holds of the amplitudes at the places of the key w holds at both
+pub both_places : {n q w p : ℕ} (Takes : Zω → Type 0) (xs : List (List ℤ)) → q < n → w < 2 ^ n → false ≡ bit q w → p ≡ 2 ^ q → Room n xs →
+    ((u : ℕ) → u < 2 ^ n → put q false u ≡ w → Takes (amplitude_at xs u)) →
+    (w < length xs) × (w + p < length xs) × Takes (amplitude_at xs w) × Takes (amplitude_at xs (w + p))
+both_places {n} {q} {w} {p} Takes xs qn wn low e room takes =
+    let pair = pair_at qn wn low e in
+    (omega (arith, room.places), omega (arith, pair.top, room.places), takes w pair.below pair.own, takes (w + p) pair.top pair.joined)
+
+-- one turn of a pass along q: what F makes of the column stands at both places of a pair, and the others stay
+pub pair_made : {n q w high : ℕ} (F : State → State) (xs ys : List (List ℤ)) → Pair n q w high →
+    amplitude_at ys w ≡ F (amplitude_at xs) w → amplitude_at ys high ≡ F (amplitude_at xs) high →
+    ((u : ℕ) → (u ≡ w → ⊥) → (u ≡ high → ⊥) → amplitude_at ys u ≡ amplitude_at xs u) → Turned n (put q false) F w xs ys
+pair_made {n} {q} {w} {high} F xs ys pair low top others =
+    record {
+      here = λ u b e. place u (of_pair q u w e);
+      others = λ u b ne. others u (λ e. ne (ap (put q false) e ∙ pair.own)) (λ e. ne (ap (put q false) e ∙ pair.joined));
+    }
+  where
+    place : (u : ℕ) → (u ≡ w) ⊎ (u ≡ put q true w) → amplitude_at ys u ≡ F (amplitude_at xs) u
+    place u (inl e) = rw e low
+    place u (inr e) = rw (e ∙ sym pair.is) top
+
+-- as two stores do it
+pub pair_turned : {n q w high : ℕ} (F : State → State) (x y : Zω) (xs : List (List ℤ)) → Pair n q w high → 2 ^ n ≤ length xs →
     x ≡ F (amplitude_at xs) w → y ≡ F (amplitude_at xs) high → Turned n (put q false) F w xs (stored (stored xs w x) high y)
-pair_turned {n} {q} {w} {high} F x y xs pair room ex ey = record { here = λ u b e. place u (of_pair q u w e); others = λ u b ne. rest u ne }
+pair_turned {n} {q} {w} {high} F x y xs pair room ex ey =
+    pair_made F xs (stored (stored xs w x) high y) pair
+    (stored_other (stored xs w x) high y w apart ∙ stored_same xs w x (omega (arith, pair.below)) ∙ ex)
+    (stored_same (stored xs w x) high y (omega (arith, length-stored xs w x, pair.top)) ∙ ey)
+    (λ u p q. stored_other (stored xs w x) high y u q ∙ stored_other xs w x u p)
   where
     apart : w ≡ high → ⊥
     apart e = not_lower q w w (ap (bit q) (e ∙ pair.is) ∙ bit_put_same q true w) pair.own
 
-    place : (u : ℕ) → (u ≡ w) ⊎ (u ≡ put q true w) → amplitude_at (stored (stored xs w x) high y) u ≡ F (amplitude_at xs) u
-    place u (inl e) =
-        rw e (stored_other (stored xs w x) high y w apart ∙ stored_same xs w x (omega (arith, pair.below)) ∙ ex)
-    place u (inr e) =
-        rw (e ∙ sym pair.is) (stored_same (stored xs w x) high y (omega (arith, length-stored xs w x, pair.top)) ∙ ey)
-
-    rest : (u : ℕ) → (put q false u ≡ w → ⊥) → amplitude_at (stored (stored xs w x) high y) u ≡ amplitude_at xs u
-    rest u ne =
-        stored_other (stored xs w x) high y u (λ e. ne (ap (put q false) e ∙ pair.joined))
-        ∙ stored_other xs w x u (λ e. ne (ap (put q false) e ∙ pair.own))
-
 -- a turn at a place that is no lower one does nothing
-pub none_turned : (n q w : ℕ) (F : State → State) (xs : List ℤ) → bit q w ≡ true → Turned n (put q false) F w xs xs
-none_turned n q w F xs e = record { here = λ u b h. absurd (not_lower q u w e h); others = λ u b ne. refl }
+pub none_turned : {n : ℕ} (q : ℕ) {w : ℕ} {F : State → State} {xs : List (List ℤ)} → true ≡ bit q w → Turned n (put q false) F w xs xs
+none_turned q {w} e = record { here = λ u b h. absurd (not_lower q u w (sym e) h); others = λ u b ne. refl }

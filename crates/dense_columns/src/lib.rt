@@ -1,82 +1,52 @@
-// The dense layer, columns: exact amplitudes in a lent slice, four numbers an amplitude, read and changed in place.
+// The dense layer, columns: exact amplitudes in a lent slice, four numbers each, read and changed in place.
 #![tactic(auto)]
 
-ghost use Rattle.std.specs.Prelude.{◌≡◌, ℕ, ◌+◌, ◌*◌, ◌^◌, ◌<◌, ◌≤◌, length, replicate, pos};
+ghost use Rattle.std.specs.Prelude.{◌≡◌, ℕ, ◌^◌, ◌<◌, length};
 ghost use Rattle.amplitude.specs.Number.{Zω, ω^};
 ghost use Rattle.amplitude.specs.Bits.{bit};
 ghost use Rattle.amplitude.specs.Circuit.{State};
 ghost use Rattle.dense_numbers.specs.Numbers.{number, Sized, most_doublings};
-ghost use Rattle.dense_columns.specs.Columns.{amplitude_at, stored, Holds, Room, Turned, Local, Inside};
+ghost use Rattle.dense_columns.specs.Columns.{amplitude_at, stored, Exchanged, Holds, Room, Turned, Local, Inside};
 
 use dense_numbers::Amplitude;
 
 // The amplitude at place w.
 #[tactic(auto, unfolding(crate::specs::Columns::amplitude_at))]
-pub fn load(column: &[i64], w: usize) -> Amplitude
-    requires { 4 * w + 4 ≤ length column.now }
+pub fn load(column: &[[i64; 4]], w: usize) -> Amplitude
+    requires { w < length column.now }
     ensures { number result ≡ amplitude_at column.now w }
 {
-    let at = 4 * w;
-    let a = column[at];
-    let b = column[at + 1];
-    let c = column[at + 2];
-    let d = column[at + 3];
-    Amplitude { a, b, c, d }
-}
-
-// The amplitude at place w set anew.
-#[tactic(auto, unfolding(crate::specs::Columns::stored))]
-pub fn store(column: &mut [i64], w: usize, z: Amplitude)
-    requires { 4 * w + 4 ≤ length column.old }
-    ensures { column.new ≡ stored column.old w (number z) }
-{
-    let at = 4 * w;
-    let a = z.a;
-    let b = z.b;
-    let c = z.c;
-    let d = z.d;
-    column[at] = a;
-    column[at + 1] = b;
-    column[at + 2] = c;
-    column[at + 3] = d;
+    column[w].into()
 }
 
 // The amplitudes of two places exchanged.
-pub fn exchange(column: &mut [i64], low: usize, high: usize)
-    requires { (4 * low + 4 ≤ length column.old) × (4 * high + 4 ≤ length column.old) }
-    ensures { column.new ≡ stored (stored column.old low (amplitude_at column.old high)) high (amplitude_at column.old low) }
+pub fn exchange(column: &mut [[i64; 4]], low: usize, high: usize)
+    requires { (low < length column.old) × (high < length column.old) }
+    ensures whole { column.new ≡ stored (stored column.old low (amplitude_at column.old high)) high (amplitude_at column.old low) }
+    ensures exchanged { Exchanged low high column.old column.new }
 {
-    let x = load(column, low);
-    let y = load(column, high);
-    store(column, low, y);
-    store(column, high, x);
+    column.swap(low, high);
 }
 
 // The amplitudes of two places exchanged, that which comes to the first times ω^b and the other times ω^c.
-pub fn cross(column: &mut [i64], low: usize, high: usize, b: u8, c: u8)
-    requires { (4 * low + 4 ≤ length column.old) × (4 * high + 4 ≤ length column.old) × Sized most_doublings (amplitude_at column.old low) × Sized most_doublings (amplitude_at column.old high) }
+#[tactic(auto, unfolding(crate::specs::Columns::stored))]
+pub fn cross(column: &mut [[i64; 4]], low: usize, high: usize, b: u8, c: u8)
+    requires { (low < length column.old) × (high < length column.old) × Sized most_doublings (amplitude_at column.old low) × Sized most_doublings (amplitude_at column.old high) }
     ensures { column.new ≡ stored (stored column.old low (ω^ b (amplitude_at column.old high))) high (ω^ c (amplitude_at column.old low)) }
 {
     let x = load(column, low);
     let y = load(column, high);
-    store(column, low, y.times_power(b));
-    store(column, high, x.times_power(c));
+    column[low] = y.times_power(b).into();
+    column[high] = x.times_power(c).into();
 }
 
 // The amplitude at place w times ω^k.
-pub fn turn(column: &mut [i64], w: usize, k: u8)
-    requires { (4 * w + 4 ≤ length column.old) × Sized most_doublings (amplitude_at column.old w) }
+#[tactic(auto, unfolding(crate::specs::Columns::stored))]
+pub fn turn(column: &mut [[i64; 4]], w: usize, k: u8)
+    requires { (w < length column.old) × Sized most_doublings (amplitude_at column.old w) }
     ensures { column.new ≡ stored column.old w (ω^ k (amplitude_at column.old w)) }
 {
-    let x = load(column, w);
-    store(column, w, x.times_power(k));
-}
-
-// Zeros everywhere.
-pub fn clear(column: &mut [i64])
-    ensures { column.new ≡ replicate (length column.old) (pos 0) }
-{
-    column.fill(0);
+    column[w] = load(column, w).times_power(k).into();
 }
 
 // Is bit q of a place 1?
@@ -97,7 +67,7 @@ pub fn power(q: usize) -> usize
 
 // A gate's step at one place of a column. Which qubits it takes, which places are done together, by their key, what it makes of a state, and
 // what the amplitudes have to be. It reads the places of a key alone.
-// Stays: a column is a part of the caller's buffer, with n beside it; a struct over a part of a lent slice loses to the lender what it holds in the end.
+// Stays: a column and its n, the qubits, are two parameters. A struct of both, lent to be changed, would make each contract say that n stays.
 pub trait Step {
     ghost within: { Self → ℕ → Type 0 };
 
@@ -108,7 +78,7 @@ pub trait Step {
     ghost takes: { Self → Zω → Type 0 };
 
     // The step at place w.
-    fn at(self, column: &mut [i64], n: usize, w: usize)
+    fn at(self, column: &mut [[i64; 4]], n: usize, w: usize)
         requires qubits { within self n }
         requires place { w < 2 ^ n }
         requires room { Room n column.old }
@@ -121,7 +91,7 @@ pub trait Step {
 }
 
 // A pass over a column: the step at each place in turn.
-pub fn pass<S: Step + Copy>(column: &mut [i64], n: usize, step: S)
+pub fn pass<S: Step + Copy>(column: &mut [[i64; 4]], n: usize, step: S)
     requires qubits { S.within step n }
     requires room { Room n column.old }
     requires small { (u : ℕ) → u < 2 ^ n → S.takes step (amplitude_at column.old u) }

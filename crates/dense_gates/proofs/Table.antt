@@ -58,15 +58,3 @@ table_is u (suc zero) (suc zero) l m = (square_is u).last
 table_is u zero (suc (suc column)) l m = absurd (omega arith)
 table_is u (suc zero) (suc (suc column)) l m = absurd (omega arith)
 table_is u (suc (suc row)) column l m = absurd (omega arith)
-
--- the table has a square for each kind
-pub kind_small : (u : OneQubit) → one_qubit_kind u < 8
-unfolding one_qubit_kind
-kind_small X = omega arith
-kind_small Y = omega arith
-kind_small Z = omega arith
-kind_small S = omega arith
-kind_small S† = omega arith
-kind_small T = omega arith
-kind_small T† = omega arith
-kind_small H = omega arith

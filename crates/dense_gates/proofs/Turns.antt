@@ -3,7 +3,7 @@
 use mathlib.Core.Path.{◌≡◌, ap, ◌∙◌}
 use mathlib.Core.List.{List}
 use mathlib.Core.Bool.{true, false}
-use Prim.Native.Nat.{ℕ, ◌*◌, ◌^◌, ◌≤◌}
+use Prim.Native.Nat.{ℕ, ◌^◌, ◌≤◌}
 use lib.ListN.{length}
 use lib.IntN.{ℤ}
 use Rattle.amplitude.specs.Number.{◌+ω◌, ω^}
@@ -14,7 +14,7 @@ use Rattle.dense_columns.specs.Columns.{amplitude_at, stored, Turned}
 use Rattle.dense_columns.proofs.Pairs.{Pair, pair_turned}
 use Rattle.dense_gates.specs.Gates.{combined}
 
-pub combined-turned : {n q w high : ℕ} (a b c d : ℕ) (xs : List ℤ) → Pair n q w high → 4 * 2 ^ n ≤ length xs →
+pub combined-turned : {n q w high : ℕ} (a b c d : ℕ) (xs : List (List ℤ)) → Pair n q w high → 2 ^ n ≤ length xs →
     Turned n (put q false) (combined q (ω a) (ω b) (ω c) (ω d)) w xs
     (stored (stored xs w (ω^ a (amplitude_at xs w) +ω ω^ b (amplitude_at xs high))) high (ω^ c (amplitude_at xs w) +ω ω^ d (amplitude_at xs high)))
 combined-turned {n} {q} {w} {high} a b c d xs pair room = pair_turned (combined q (ω a) (ω b) (ω c) (ω d)) _ _ xs pair room at_low at_high

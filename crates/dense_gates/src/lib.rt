@@ -2,7 +2,7 @@
 // Stays: a column and its n are two parameters; `Step` of dense_columns says why.
 #![tactic(auto)]
 
-ghost use Rattle.std.specs.Prelude.{◌≡◌, ◌+◌, ◌*◌, ◌<◌, ◌≤◌, false, eqb, length};
+ghost use Rattle.std.specs.Prelude.{◌≡◌, ℕ, ◌<◌, false, eqb, length, get_or, [], None};
 ghost use Rattle.record_format.specs.Gate.{one};
 ghost use Rattle.record_format.specs.Typed.{one_in};
 ghost use Rattle.amplitude.specs.Bits.{put};
@@ -15,28 +15,24 @@ ghost use Rattle.dense_gates.specs.Gates.{entry_of, combined};
 ghost use Rattle.dense_turning.specs.Local.{pair_inside};
 ghost use Rattle.dense_gates.specs.Local.{combined_local};
 
-use dense_columns::{Step, has_bit, load, pass, power, store};
+use dense_columns::{Step, has_bit, load, pass, power};
 use dense_turning::{cross_along, turn_where};
 use record_format::gate::OneQubit;
 
-// The one-qubit matrices by kind, two rows of two entries each: a power of ω, or None for 0.
-const MATRICES: [[[Option<u8>; 2]; 2]; 8] = [
-    [[None, Some(0)], [Some(0), None]],
-    [[None, Some(6)], [Some(2), None]],
-    [[Some(0), None], [None, Some(4)]],
-    [[Some(0), None], [None, Some(2)]],
-    [[Some(0), None], [None, Some(6)]],
-    [[Some(0), None], [None, Some(1)]],
-    [[Some(0), None], [None, Some(7)]],
-    [[Some(0), Some(0)], [Some(0), Some(4)]],
-];
-
-// An entry of the matrix of a kind.
-fn matrix_entry(kind: OneQubit, row: usize, column: usize) -> Option<u8>
-    requires { (row < 2) × (column < 2) }
-    ensures { entry_of result ≡ entry (matrix (one_in kind)) (eqb row 1) (eqb column 1) }
+// The table of the one-qubit matrices by kind, two rows of two entries each: a power of ω, or None for 0.
+fn matrix_of(kind: OneQubit) -> [[Option<u8>; 2]; 2]
+    ensures { (row column : ℕ) → row < 2 → column < 2 → entry_of (get_or (get_or result row []) column None) ≡ entry (matrix (one_in kind)) (eqb row 1) (eqb column 1) }
 {
-    MATRICES[usize::from(u8::from(kind))][row][column]
+    match kind {
+        OneQubit::X => [[None, Some(0)], [Some(0), None]],
+        OneQubit::Y => [[None, Some(6)], [Some(2), None]],
+        OneQubit::Z => [[Some(0), None], [None, Some(4)]],
+        OneQubit::S => [[Some(0), None], [None, Some(2)]],
+        OneQubit::SInverse => [[Some(0), None], [None, Some(6)]],
+        OneQubit::T => [[Some(0), None], [None, Some(1)]],
+        OneQubit::TInverse => [[Some(0), None], [None, Some(7)]],
+        OneQubit::H => [[Some(0), Some(0)], [Some(0), Some(4)]],
+    }
 }
 
 // A matrix of powers of ω along qubit q, a and b in its first row, c and d in its second: pair by pair, at the lower place.
@@ -51,14 +47,15 @@ struct Combine {
 
 impl Combine {
     // The matrix on the amplitudes of a pair of places.
-    fn combine(self, column: &mut [i64], low: usize, high: usize)
-        requires { (4 * low + 4 ≤ length column.old) × (4 * high + 4 ≤ length column.old) × Sized most_doublings (amplitude_at column.old low) × Sized most_doublings (amplitude_at column.old high) }
+    #[tactic(auto, unfolding(dense_columns::specs::Columns::stored))]
+    fn combine(self, column: &mut [[i64; 4]], low: usize, high: usize)
+        requires { (low < length column.old) × (high < length column.old) × Sized most_doublings (amplitude_at column.old low) × Sized most_doublings (amplitude_at column.old high) }
         ensures { column.new ≡ stored (stored column.old low (ω^ self.a (amplitude_at column.old low) +ω ω^ self.b (amplitude_at column.old high))) high (ω^ self.c (amplitude_at column.old low) +ω ω^ self.d (amplitude_at column.old high)) }
     {
         let x = load(column, low);
         let y = load(column, high);
-        store(column, low, x.times_power(self.a) + y.times_power(self.b));
-        store(column, high, x.times_power(self.c) + y.times_power(self.d));
+        column[low] = (x.times_power(self.a) + y.times_power(self.b)).into();
+        column[high] = (x.times_power(self.c) + y.times_power(self.d)).into();
     }
 }
 
@@ -71,7 +68,7 @@ impl Step for Combine {
 
     ghost takes = { λ s. Sized most_doublings };
 
-    fn at(self, column: &mut [i64], n: usize, w: usize) {
+    fn at(self, column: &mut [[i64; 4]], n: usize, w: usize) {
         if !has_bit(w, self.q) {
             self.combine(column, w, w + power(self.q));
         }
@@ -84,14 +81,11 @@ impl Step for Combine {
 
 // A one-qubit gate on a column, by its matrix. A diagonal one turns the amplitudes where its qubit is 1, one with zeros in the diagonal
 // exchanges them along it, and one without zeros combines them. No other is in the table.
-pub fn apply_one(column: &mut [i64], n: usize, kind: OneQubit, q: usize)
+pub fn apply_one(column: &mut [[i64; 4]], n: usize, kind: OneQubit, q: usize)
     requires { (q < n) × Room n column.old × AllSized n most_doublings (amplitude_at column.old) }
     ensures { Holds n (apply (one (one_in kind) q) (amplitude_at column.old)) column.new }
 {
-    let a = matrix_entry(kind, 0, 0);
-    let b = matrix_entry(kind, 0, 1);
-    let c = matrix_entry(kind, 1, 0);
-    let d = matrix_entry(kind, 1, 1);
+    let [[a, b], [c, d]] = matrix_of(kind);
     match (a, b, c, d) {
         (_, None, _, Some(d)) => turn_where(column, n, q, q, d),
         (None, Some(b), Some(c), _) => cross_along(column, n, q, b, c),

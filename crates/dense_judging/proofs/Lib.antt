@@ -1,4 +1,3 @@
--- Laws of judging: tests over ranges, the halves of the buffer, then what the tests on them mean.
+-- Laws of judging: tests over ranges, then what the tests on two columns mean.
 pub mod Ranges
-pub mod Halves
 pub mod Fitting

@@ -1,17 +1,17 @@
--- The columns of two lists compared, by the lists' bytes, in the two halves of a buffer.
+-- The columns of two lists compared, by the lists' bytes, in two columns of amplitudes.
 -- Assumes nothing.
-use Rattle.std.specs.Prelude.{◌≡◌, ℕ, ◌+◌, ◌≤◌, List, [], ◌∷◌, take, drop, ℤ}
+use Rattle.std.specs.Prelude.{◌≡◌, ℕ, ◌+◌, ◌≤◌, List, [], ◌∷◌, ℤ}
 use Rattle.std.specs.Coded.{×_prop, Π_prop, Unit-prop, le_prop}
 use mathlib.Core.HLevel.{×₃_prop, ⊥_prop}
 use native.Mathlib.Nat.{ℕ_set}
 use Rattle.record_format.specs.Gate.{Gate, one, two, Within, AllWithin}
 use Rattle.record_format.specs.Reading.{gates_in}
-use Rattle.amplitude.specs.Circuit.{State, h_gates}
+use Rattle.amplitude.specs.Circuit.{h_gates}
 use Rattle.amplitude.specs.Testing.{scaled_column}
 use Rattle.dense_meaning.specs.Limits.{block_qubits}
 use Rattle.dense_meaning.specs.Columns.{Finding, carried_by, unfit_at}
 use Rattle.dense_numbers.specs.Numbers.{most_doublings}
-use Rattle.dense_columns.specs.Columns.{amplitude_at, Holds}
+use Rattle.dense_columns.specs.Columns.{Holds}
 use Rattle.dense_judging.specs.declared.Judged.{Judged}
 use Rattle.dense_judging.specs.declared.Judged.TheVariants.{Carried, Different}
 
@@ -44,22 +44,10 @@ Block-prop n first second h k x y i =
       small = le_prop x.small y.small i;
     }
 
--- the numbers of a half
-abbrev pub half : ℕ
-half = 256
-
--- the amplitudes in the first half of the buffer
-abbrev pub left_of : List ℤ → State
-left_of xs = amplitude_at (take half xs)
-
--- and in the second
-abbrev pub right_of : List ℤ → State
-right_of xs = amplitude_at (take half (drop half xs))
-
--- the halves hold column v of both lists, each times √2 as often as the other has H gates
-pub record Halved (n : ℕ) (first second : List Gate) (v : ℕ) (xs : List ℤ) : Type 0 where
-  pub left : Holds n (scaled_column (h_gates second) first v) (take half xs)
-  pub right : Holds n (scaled_column (h_gates first) second v) (take half (drop half xs))
+-- two columns hold column v of both lists, each times √2 as often as the other has H gates
+pub record BothRun (n : ℕ) (first second : List Gate) (v : ℕ) (xs ys : List (List ℤ)) : Type 0 where
+  pub left : Holds n (scaled_column (h_gates second) first v) xs
+  pub right : Holds n (scaled_column (h_gates first) second v) ys
 
 -- what is found, as the answer has it
 abbrev pub finding_in : Judged → Finding

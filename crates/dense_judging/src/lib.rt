@@ -1,22 +1,22 @@
-// The dense layer, judging: one column of each list at a time in the halves of a buffer, compared for the powers of ω. Column 0 fits at
+// The dense layer, judging: one column of each list at a time, each in a half of a buffer, compared for the powers of ω. Column 0 fits at
 // most one power, so that later columns are tried for this one alone.
+// Stays: columns to compare and their n are parameters, as run_column takes a column and its n; `Step` of dense_columns says why.
 #![tactic(auto)]
 
-ghost use Rattle.std.specs.Prelude.{◌≡◌, ℕ, ◌*◌, ◌^◌, ◌<◌, ◌≤◌, true, false, replicate, pos, MatchOption};
+ghost use Rattle.std.specs.Prelude.{◌≡◌, ℕ, ◌^◌, ◌<◌, ◌≤◌, true, false, length, replicate, pos, MatchOption};
 ghost use Rattle.record_format.specs.Reading.{gates_in};
 ghost use Rattle.amplitude.specs.Testing.{carries_state};
-ghost use Rattle.dense_meaning.specs.Limits.{block_qubits, buffer_size};
+ghost use Rattle.dense_meaning.specs.Limits.{buffer_size};
 ghost use Rattle.dense_meaning.specs.Columns.{finding};
 ghost use Rattle.dense_numbers.specs.Numbers.{most_doublings};
 ghost use Rattle.dense_columns.specs.Columns.{amplitude_at, AllSized, Room};
-ghost use Rattle.dense_judging.specs.Judging.{Block, Block-prop, left_of, right_of, Halved, finding_in};
+ghost use Rattle.dense_judging.specs.Judging.{Block, Block-prop, BothRun, finding_in};
 
-use dense_columns::{clear, load, power};
-use dense_meaning::BUFFER_SIZE;
+use dense_columns::{load, power};
 use dense_running::run_column;
 
-// The numbers of a column of six qubits: half of the buffer.
-const HALF: usize = 256;
+// The places of a column of six qubits.
+const PLACES: usize = 64;
 
 // The powers of ω.
 const POWERS: u8 = 8;
@@ -41,61 +41,58 @@ pub enum Judged {
 }
 
 // Does ω^j carry the first column to the second?
-fn carries(first: &[i64], second: &[i64], n: usize, j: u8) -> bool
+fn carries(first: &[[i64; 4]], second: &[[i64; 4]], n: usize, j: u8) -> bool
     requires { Room n first.now × Room n second.now × AllSized n most_doublings (amplitude_at first.now) }
     ensures { result ≡ carries_state n j (amplitude_at first.now) (amplitude_at second.now) }
 {
     (0..power(n)).all(|w| load(first, w).carries_to(j, load(second, w)))
 }
 
-// Does ω^j carry the column in the first half to that in the second?
-fn fits(buffer: &[i64; BUFFER_SIZE], n: usize, j: u8) -> bool
-    requires { (n ≤ block_qubits) × AllSized n most_doublings (left_of buffer.now) }
-    ensures { result ≡ carries_state n j (left_of buffer.now) (right_of buffer.now) }
+// Column v of both lists, each times √2 as often as the other has H gates.
+fn run_both(first: &mut [[i64; 4]], second: &mut [[i64; 4]], lists: Lists, v: usize)
+    requires input { v < 2 ^ lists.n }
+    requires room { Room lists.n first.old × Room lists.n second.old }
+    ensures { BothRun lists.entry.n (gates_in lists.entry.first.now) (gates_in lists.entry.second.now) v first.new second.new }
 {
-    carries(&buffer[..HALF], &buffer[HALF..], n, j)
+    run_column(first, lists.n, lists.first, v, lists.k);
+    run_column(second, lists.n, lists.second, v, lists.h);
 }
 
-// Column v of both lists, each times √2 as often as the other has H gates, in the halves.
-fn run_both(buffer: &mut [i64; BUFFER_SIZE], lists: Lists, v: usize)
-    requires { v < 2 ^ lists.n }
-    ensures { Halved lists.entry.n (gates_in lists.entry.first.now) (gates_in lists.entry.second.now) v buffer.new }
+// The first power of ω that carries the first column to the second, if any does.
+fn first_power(first: &[[i64; 4]], second: &[[i64; 4]], n: usize) -> Option<u8>
+    requires { Room n first.now × Room n second.now × AllSized n most_doublings (amplitude_at first.now) }
+    ensures { MatchOption result ((i : ℕ) → i < 8 → carries_state n i (amplitude_at first.now) (amplitude_at second.now) ≡ false) (λ j. (j < 8) × (carries_state n j (amplitude_at first.now) (amplitude_at second.now) ≡ true) × ((i : ℕ) → i < j → carries_state n i (amplitude_at first.now) (amplitude_at second.now) ≡ false)) }
 {
-    run_column(&mut buffer[..HALF], lists.n, lists.first, v, lists.k);
-    run_column(&mut buffer[HALF..], lists.n, lists.second, v, lists.h);
-}
-
-// The first power of ω that carries the column in the first half to that in the second, if any does.
-fn first_power(buffer: &[i64; BUFFER_SIZE], n: usize) -> Option<u8>
-    requires { (n ≤ block_qubits) × AllSized n most_doublings (left_of buffer.now) }
-    ensures { MatchOption result ((i : ℕ) → i < 8 → carries_state n i (left_of buffer.now) (right_of buffer.now) ≡ false) (λ j. (j < 8) × (carries_state n j (left_of buffer.now) (right_of buffer.now) ≡ true) × ((i : ℕ) → i < j → carries_state n i (left_of buffer.now) (right_of buffer.now) ≡ false)) }
-{
-    (0..POWERS).find(|j| fits(buffer, n, *j))
+    (0..POWERS).find(|j| carries(first, second, n, *j))
 }
 
 // All columns of both lists compared.
-fn judge_columns(buffer: &mut [i64; BUFFER_SIZE], lists: Lists) -> Judged
+fn judge_columns(first: &mut [[i64; 4]], second: &mut [[i64; 4]], lists: Lists) -> Judged
+    requires { Room lists.n first.old × Room lists.n second.old }
     ensures { finding_in result ≡ finding lists.entry.n (gates_in lists.entry.first.now) (gates_in lists.entry.second.now) }
 {
-    run_both(buffer, lists, 0);
-    let Some(j) = first_power(buffer, lists.n) else {
+    run_both(first, second, lists, 0);
+    let Some(j) = first_power(first, second, lists.n) else {
         return Judged::Different(0);
     };
     for v in 1..power(lists.n) {
-        run_both(buffer, lists, v);
-        if !fits(buffer, lists.n, j) {
+        run_both(first, second, lists, v);
+        if !carries(first, second, lists.n, j) {
             return Judged::Different(v as u16);
         }
     }
     Judged::Carried(j)
 }
 
-// The same in a buffer that is zero afterwards.
-pub fn judge(buffer: &mut [i64; BUFFER_SIZE], lists: Lists) -> Judged
+// The same in a buffer that is zero afterwards: its first half, as amplitudes, for the columns of the first list, the second for the other's.
+pub fn judge(buffer: &mut [i64], lists: Lists) -> Judged
+    requires { buffer_size ≤ length buffer.old }
     ensures judged { finding_in result ≡ finding lists.entry.n (gates_in lists.entry.first.now) (gates_in lists.entry.second.now) }
-    ensures zero { buffer.new ≡ replicate buffer_size (pos 0) }
+    ensures zero { buffer.new ≡ replicate (length buffer.old) (pos 0) }
 {
-    let judged = judge_columns(buffer, lists);
-    clear(buffer);
+    let (amplitudes, _) = buffer.as_chunks_mut::<4>();
+    let (first, second) = amplitudes.split_at_mut(PLACES);
+    let judged = judge_columns(first, second, lists);
+    buffer.fill(0);
     judged
 }

@@ -11,7 +11,7 @@ use verdict_line::write_verdict;
 
 // The line of an outcome: its verdict's word and the two inputs.
 pub fn write_outcome(o: Outcome) -> Line
-    ensures { result.bytes ≡ line_of (says (found_of o)) }
+    ensures { result.items ≡ line_of (says (found_of o)) }
 {
     write_verdict(o.verdict, &[o.first, o.second])
 }

@@ -1,14 +1,14 @@
 -- Sizes of amplitudes: a sum and √2 at most double them, a power of ω keeps them.
 -- Assumes nothing.
 use mathlib.Core.Path.{◌≡◌, refl, sym, ap, ◌∙◌}
-use Prim.Native.Nat.{ℕ, zero, suc, ◌+◌, ◌%◌, ◌^◌, ◌<◌, ◌≤◌}
+use Prim.Native.Nat.{ℕ, zero, suc, ◌+◌, ◌-◌, ◌^◌, ◌≤◌}
 use native.Mathlib.Nat.{le_trans, pow-succ', add-zero, add-suc}
 use native.Mathlib.Omega.{arith}
 use lib.Pow.{pow_mono}
 use lib.IntN.{ℤ, neg_ℤ, nat_abs, ◌+ℤ◌, ◌-ℤ◌, +ℤ_comm, neg_ℤ-neg_ℤ}
 use Rattle.amplitude.specs.Number.{Zω, whole, 0ω, 1ω, ◌+ω◌, neg, mulω, ω^, mul√2, √2^}
 use Rattle.amplitude.specs.Matrix.{Entry, O, ω, times}
-use Rattle.amplitude.proofs.NumberLaws.{zω≡, ω^_four, ω^-add, ω^-mod}
+use Rattle.amplitude.proofs.NumberLaws.{zω≡, ω^_four, ω^-add}
 use Rattle.dense_numbers.specs.Numbers.{Sized, most_doublings}
 use Rattle.dense_numbers.proofs.Whole.{size_sum, size_negative}
 
@@ -92,14 +92,8 @@ root_two x =
     zω≡ (rw (neg_ℤ-neg_ℤ x.b) (+ℤ_comm (neg_ℤ x.d) x.b)) (rw (neg_ℤ-neg_ℤ x.c))
     (rw (neg_ℤ-neg_ℤ x.d)) refl
 
--- a power of ω by the power that its number leaves by 4: ω⁸ is 1
-pub lower_half : (k : ℕ) (x : Zω) → k % 8 < 4 → ω^ (k % 4) x ≡ ω^ k x
-lower_half k x low =
-    let same : k % 4 ≡ k % 8 = omega arith in
-    ap (λ m. ω^ m x) same ∙ ω^-mod k x
-
--- and ω⁴ is −1
-pub upper_half : (k : ℕ) (x : Zω) → 4 ≤ k % 8 → ω^ (k % 4) (neg x) ≡ ω^ k x
+-- ω⁴ is −1
+pub upper_half : (k : ℕ) (x : Zω) → 4 ≤ k → ω^ (k - 4) (neg x) ≡ ω^ k x
 upper_half k x high =
-    let same : k % 4 + 4 ≡ k % 8 = omega arith in
-    ap (ω^ (k % 4)) (sym (ω^_four x)) ∙ sym (ω^-add (k % 4) 4 x) ∙ ap (λ m. ω^ m x) same ∙ ω^-mod k x
+    let same : k - 4 + 4 ≡ k = omega arith in
+    ap (ω^ (k - 4)) (sym (ω^_four x)) ∙ sym (ω^-add (k - 4) 4 x) ∙ ap (λ m. ω^ m x) same

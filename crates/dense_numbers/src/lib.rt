@@ -2,20 +2,40 @@
 // Every function is given numbers of bounded size, and none overflows.
 #![tactic(auto)]
 
-ghost use Rattle.std.specs.Prelude.{◌≡◌, ◌%◌, ◌≤◌};
+ghost use Rattle.std.specs.Prelude.{◌≡◌, ◌<◌, ◌≤◌};
 ghost use Rattle.amplitude.specs.Number.{1ω, ◌+ω◌, neg, mulω, ω^, mul√2, √2^};
 ghost use Rattle.amplitude.specs.Testing.{eqω};
-ghost use Rattle.dense_numbers.specs.Numbers.{number, Sized, most_doublings};
+ghost use Rattle.dense_numbers.specs.Numbers.{number, of_coefficients, coefficients, Sized, most_doublings};
 
 use std::ops::{Add, Neg};
 
 // An amplitude: a + bω + cω² + dω³.
+// Stays: how large it may be stands in the contracts, not in the type, since a sum is one doubling larger than what is added.
 #[derive(Clone, Copy, Debug, PartialEq, Eq)]
 pub struct Amplitude {
     pub a: i64,
     pub b: i64,
     pub c: i64,
     pub d: i64,
+}
+
+impl From<[i64; 4]> for Amplitude {
+    ghost from_gives = { λ numbers x. number x ≡ of_coefficients numbers };
+
+    #[tactic(auto, unfolding(crate::specs::Numbers::of_coefficients))]
+    fn from(numbers: [i64; 4]) -> Amplitude {
+        let [a, b, c, d] = numbers;
+        Amplitude { a, b, c, d }
+    }
+}
+
+impl From<Amplitude> for [i64; 4] {
+    ghost from_gives = { λ x numbers. numbers ≡ coefficients (number x) };
+
+    #[tactic(auto, unfolding(crate::specs::Numbers::coefficients))]
+    fn from(x: Amplitude) -> [i64; 4] {
+        [x.a, x.b, x.c, x.d]
+    }
 }
 
 impl Add for Amplitude {
@@ -81,14 +101,14 @@ impl Amplitude {
         }
     }
 
-    // An amplitude times ω to what k leaves by 4, if it leaves something.
+    // An amplitude times ω, ω² or ω³.
     fn times_low_power(self, k: u8) -> Amplitude
-        requires power { 1 ≤ k % 4 }
+        requires power { (1 ≤ k) × (k < 4) }
         requires small { Sized most_doublings (number self) }
-        ensures { number result ≡ ω^ (k % 4) (number self) }
+        ensures { number result ≡ ω^ k (number self) }
     {
         let y = self.times_omega();
-        match k % 4 {
+        match k {
             1 => y,
             2 => y.times_omega(),
             _ => y.times_omega().times_omega(),
@@ -110,7 +130,7 @@ impl Amplitude {
         if k < 4 {
             return self.times_low_power(k);
         }
-        (-self).times_low_power(k)
+        (-self).times_low_power(k - 4)
     }
 
     // An amplitude times √2 = ω − ω³.

@@ -15,12 +15,12 @@ use Rattle.dense_running.proofs.Locality.{run_local}
 use Rattle.dense_running.proofs.Growth.{apply_sized}
 
 -- the gates that are left take the column as it is to the state aimed at
-pub record ToRun (n : ℕ) (aim : State) (gs : List Gate) (xs : List ℤ) : Type 0 where
+pub record ToRun (n : ℕ) (aim : State) (gs : List Gate) (xs : List (List ℤ)) : Type 0 where
   pub ready : Ready n gs xs
   pub reaches : Agree n (run gs (amplitude_at xs)) aim
 
 -- the column's numbers are small enough for the next
-pub ready_small : (n : ℕ) (gs : List Gate) (xs : List ℤ) → Ready n gs xs → AllSized n most_doublings (amplitude_at xs)
+pub ready_small : (n : ℕ) (gs : List Gate) (xs : List (List ℤ)) → Ready n gs xs → AllSized n most_doublings (amplitude_at xs)
 ready_small n gs xs r w b = sized_more (most_doublings - h_gates gs) most_doublings (amplitude_at xs w) (omega arith) (r.sized w b)
 
 -- states that agree have one size
@@ -28,11 +28,11 @@ pub agree_sized : (n k : ℕ) (φ ψ : State) → Agree n φ ψ → AllSized n k
 agree_sized n k φ ψ same s w b = subst (λ z. Sized k z) (sym (same w b)) (s w b)
 
 -- before the first
-pub none_run : (n : ℕ) (gs : List Gate) (xs : List ℤ) → Ready n gs xs → ToRun n (run gs (amplitude_at xs)) gs xs
+pub none_run : (n : ℕ) (gs : List Gate) (xs : List (List ℤ)) → Ready n gs xs → ToRun n (run gs (amplitude_at xs)) gs xs
 none_run n gs xs r = record { ready = r; reaches = λ w b. refl }
 
 -- after one
-pub one_run : (n : ℕ) (aim : State) (g : Gate) (gs : List Gate) (xs ys : List ℤ) → ToRun n aim (g ∷ gs) xs → Holds n (apply g (amplitude_at xs)) ys →
+pub one_run : (n : ℕ) (aim : State) (g : Gate) (gs : List Gate) (xs ys : List (List ℤ)) → ToRun n aim (g ∷ gs) xs → Holds n (apply g (amplitude_at xs)) ys →
     ToRun n aim gs ys
 unfolding run tally
 one_run n aim g gs xs ys t h =
@@ -53,6 +53,6 @@ one_run n aim g gs xs ys t h =
     grown = omega (arith, t.ready.few)
 
 -- after the last
-pub all_run : (n : ℕ) (aim : State) (xs : List ℤ) → ToRun n aim [] xs → Holds n aim xs
+pub all_run : (n : ℕ) (aim : State) (xs : List (List ℤ)) → ToRun n aim [] xs → Holds n aim xs
 unfolding run
 all_run n aim xs t = t.reaches

@@ -13,14 +13,13 @@ ghost use Rattle.dense_numbers.specs.Numbers.{most_doublings};
 ghost use Rattle.dense_columns.specs.Columns.{amplitude_at, Holds, AllSized, Room};
 ghost use Rattle.dense_running.specs.Running.{Ready};
 
-use dense_columns::{clear, store};
 use dense_gates::apply_one;
 use dense_numbers::Amplitude;
 use dense_turning::{apply_cx, apply_cz, apply_swap};
 use record_format::gate::{Gate, TwoQubit};
 
 // A gate on a column.
-fn run_gate(column: &mut [i64], n: usize, gate: Gate)
+fn run_gate(column: &mut [[i64; 4]], n: usize, gate: Gate)
     requires within { Within n (gate_in gate) }
     requires room { Room n column.old }
     requires small { AllSized n most_doublings (amplitude_at column.old) }
@@ -41,7 +40,8 @@ fn run_gate(column: &mut [i64], n: usize, gate: Gate)
 }
 
 // A list's gates on a column, by its bytes, in list order.
-fn run_gates(column: &mut [i64], n: usize, gates: &[u8])
+// Stays: bytes, and not the chunks of whole gates, since a list may be any bytes; chunks would ask more of callers.
+fn run_gates(column: &mut [[i64; 4]], n: usize, gates: &[u8])
     requires room { Room n column.old }
     requires ready { Ready n (gates_in gates.now) column.old }
     ensures { Holds n (run (gates_in gates.now) (amplitude_at column.old)) column.new }
@@ -52,18 +52,18 @@ fn run_gates(column: &mut [i64], n: usize, gates: &[u8])
 }
 
 // Input v, times √2 k times: that number at place v and 0 elsewhere.
-fn start(column: &mut [i64], n: usize, v: usize, k: usize)
+fn start(column: &mut [[i64; 4]], n: usize, v: usize, k: usize)
     requires input { v < 2 ^ n }
     requires room { Room n column.old }
     requires few { k ≤ most_doublings }
     ensures { Holds n (λ w. √2^ k (basis v w)) column.new }
 {
-    clear(column);
-    store(column, v, Amplitude::root_two_power(k));
+    column.fill([0; 4]);
+    column[v] = Amplitude::root_two_power(k).into();
 }
 
 // Column v of a list on n qubits, by its bytes, times √2 k times. Scaling the input scales the column.
-pub fn run_column(column: &mut [i64], n: usize, gates: &[u8], v: usize, k: usize)
+pub fn run_column(column: &mut [[i64; 4]], n: usize, gates: &[u8], v: usize, k: usize)
     requires input { v < 2 ^ n }
     requires room { Room n column.old }
     requires within { AllWithin n (gates_in gates.now) }

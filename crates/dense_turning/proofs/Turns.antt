@@ -4,8 +4,7 @@ use mathlib.Core.Path.{◌≡◌, refl, sym, ◌∙◌, ap}
 use mathlib.Core.Logic.{◌≢◌}
 use mathlib.Core.List.{List}
 use mathlib.Core.Bool.{Bool, true, false, xor, false≢true}
-use Prim.Native.Nat.{ℕ, ◌+◌, ◌*◌, ◌^◌, ◌≤◌}
-use native.Mathlib.Omega.{arith}
+use Prim.Native.Nat.{ℕ, ◌^◌, ◌<◌, ◌≤◌}
 use lib.ListN.{length}
 use lib.IntN.{ℤ}
 use Rattle.record_format.specs.Gate.{two, CX, SWAP}
@@ -13,28 +12,27 @@ use Rattle.amplitude.specs.Number.{ω^}
 use Rattle.amplitude.specs.Bits.{bit, put}
 use Rattle.amplitude.specs.Circuit.{State, apply}
 use Rattle.amplitude.proofs.BitLaws.{bit_put_same, bit_put_other, put_put_same, put_put_other}
-use Rattle.dense_columns.specs.Columns.{amplitude_at, stored, Turned, itself}
-use Rattle.dense_columns.proofs.Places.{length-stored, stored_same, stored_other}
+use Rattle.dense_columns.specs.Columns.{amplitude_at, stored, Exchanged, Turned, itself}
 use Rattle.dense_columns.proofs.Passes.{point_turned, point_kept}
-use Rattle.dense_columns.proofs.Pairs.{put_own, Pair, pair_turned}
+use Rattle.dense_columns.proofs.Pairs.{put_own, Pair, pair_made, pair_turned}
 use Rattle.dense_turning.specs.Turns.{turned_where, crossed, lowest}
 use Rattle.dense_turning.specs.Local.{lowest_put}
 
 -- a place where both bits are 1 is turned
-pub both_turned : (n a b k w : ℕ) (xs : List ℤ) → 4 * w + 4 ≤ length xs → bit a w ≡ true → bit b w ≡ true →
+pub both_turned : (n a b k w : ℕ) (xs : List (List ℤ)) → w < length xs → bit a w ≡ true → bit b w ≡ true →
     Turned n itself (turned_where a b k) w xs (stored xs w (ω^ k (amplitude_at xs w)))
 both_turned n a b k w xs room p q = point_turned n w (turned_where a b k) (ω^ k (amplitude_at xs w)) xs room (unfold turned_where in rw (p, q))
 
 -- a place where the first bit is 0 is left
-pub first_kept : (n a b k w : ℕ) (xs : List ℤ) → bit a w ≡ false → Turned n itself (turned_where a b k) w xs xs
+pub first_kept : (n a b k w : ℕ) (xs : List (List ℤ)) → bit a w ≡ false → Turned n itself (turned_where a b k) w xs xs
 first_kept n a b k w xs p = point_kept n w (turned_where a b k) xs (unfold turned_where in rw p)
 
 -- and so is one where the first is 1 and the second 0
-pub second_kept : (n a b k w : ℕ) (xs : List ℤ) → bit a w ≡ true → bit b w ≡ false → Turned n itself (turned_where a b k) w xs xs
+pub second_kept : (n a b k w : ℕ) (xs : List (List ℤ)) → bit a w ≡ true → bit b w ≡ false → Turned n itself (turned_where a b k) w xs xs
 second_kept n a b k w xs p q = point_kept n w (turned_where a b k) xs (unfold turned_where in rw (p, q))
 
 -- a pair is exchanged and turned
-pub crossed_turned : {n q w high : ℕ} (b c : ℕ) (xs : List ℤ) → Pair n q w high → 4 * 2 ^ n ≤ length xs →
+pub crossed_turned : {n q w high : ℕ} (b c : ℕ) (xs : List (List ℤ)) → Pair n q w high → 2 ^ n ≤ length xs →
     Turned n (put q false) (crossed q b c) w xs (stored (stored xs w (ω^ b (amplitude_at xs high))) high (ω^ c (amplitude_at xs w)))
 crossed_turned {n} {q} {w} {high} b c xs pair room =
     pair_turned (crossed q b c) (ω^ b (amplitude_at xs high)) (ω^ c (amplitude_at xs w)) xs pair room at_low at_high
@@ -46,7 +44,7 @@ crossed_turned {n} {q} {w} {high} b c xs pair room =
     at_high = unfold crossed in rw (pair.joined, ap (bit q) pair.is ∙ bit_put_same q true w)
 
 -- where the control is 0, CX leaves the pair as it is
-pub cx_kept : (n a b w : ℕ) (xs : List ℤ) → a ≢ b → bit a w ≡ false → Turned n (put b false) (apply (two CX a b)) w xs xs
+pub cx_kept : (n a b w : ℕ) (xs : List (List ℤ)) → a ≢ b → bit a w ≡ false → Turned n (put b false) (apply (two CX a b)) w xs xs
 cx_kept n a b w xs ne e = record { here = λ u l h. place u (bit b u) h refl; others = λ u l h. refl }
   where
     control : (u : ℕ) → put b false u ≡ w → bit a u ≡ false
@@ -57,10 +55,10 @@ cx_kept n a b w xs ne e = record { here = λ u l h. place u (bit b u) h refl; ot
     place u false h s = unfold apply xor in rw (control u h, s, put_own b false u s)
 
 -- where it is 1, CX exchanges the pair
-pub cx_turned : {n b w high : ℕ} (a : ℕ) (xs : List ℤ) → a ≢ b → Pair n b w high → 4 * 2 ^ n ≤ length xs → bit a w ≡ true →
-    Turned n (put b false) (apply (two CX a b)) w xs (stored (stored xs w (amplitude_at xs high)) high (amplitude_at xs w))
-cx_turned {n} {b} {w} {high} a xs ne pair room on =
-    pair_turned (apply (two CX a b)) (amplitude_at xs high) (amplitude_at xs w) xs pair room at_low at_high
+pub cx_turned : {n b w high : ℕ} (a : ℕ) (xs ys : List (List ℤ)) → a ≢ b → Pair n b w high → bit a w ≡ true → Exchanged w high xs ys →
+    Turned n (put b false) (apply (two CX a b)) w xs ys
+cx_turned {n} {b} {w} {high} a xs ys ne pair on ex =
+    pair_made (apply (two CX a b)) xs ys pair (ex.at_low ∙ at_low) (ex.at_high ∙ at_high) ex.others
   where
     at_low : amplitude_at xs high ≡ apply (two CX a b) (amplitude_at xs) w
     at_low = unfold apply xor in rw (on, pair.low) (ap (amplitude_at xs) pair.is)
@@ -79,26 +77,23 @@ lowest_bits a b w u ne e = (
 )
 
 -- so a turn at a place whose first bit is 1 does nothing
-pub first_not_lowest : (n a b w : ℕ) (F : State → State) (xs : List ℤ) → a ≢ b → bit a w ≡ true → Turned n (lowest a b) F w xs xs
+pub first_not_lowest : (n a b w : ℕ) (F : State → State) (xs : List (List ℤ)) → a ≢ b → bit a w ≡ true → Turned n (lowest a b) F w xs xs
 first_not_lowest n a b w F xs ne e =
     record { here = λ u l h. absurd (false≢true (sym (lowest_bits a b w u ne h).0 ∙ e)); others = λ u l h. refl }
 
 -- and neither does one where the second is 1
-pub second_not_lowest : (n a b w : ℕ) (F : State → State) (xs : List ℤ) → a ≢ b → bit b w ≡ true → Turned n (lowest a b) F w xs xs
+pub second_not_lowest : (n a b w : ℕ) (F : State → State) (xs : List (List ℤ)) → a ≢ b → bit b w ≡ true → Turned n (lowest a b) F w xs xs
 second_not_lowest n a b w F xs ne e =
     record { here = λ u l h. absurd (false≢true (sym (lowest_bits a b w u ne h).1 ∙ e)); others = λ u l h. refl }
 
 -- at the lowest of four places SWAP exchanges the two that have one of its bits
-pub swap_turned : {n a b w p q : ℕ} (xs : List ℤ) → Pair n a w p → Pair n b w q → a ≢ b → 4 * 2 ^ n ≤ length xs →
-    Turned n (lowest a b) (apply (two SWAP a b)) w xs (stored (stored xs p (amplitude_at xs q)) q (amplitude_at xs p))
-swap_turned {n} {a} {b} {w} {p} {q} xs first_pair second_pair ne room =
-    record { here = λ u l h. place u (bit a u) (bit b u) h refl refl; others = λ u l h. rest u (λ e. h (ap (lowest a b) e ∙ of_p)) (λ e. h (ap (lowest a b) e ∙ of_q)) }
+pub swap_turned : {n a b w p q : ℕ} (xs ys : List (List ℤ)) → Pair n a w p → Pair n b w q → a ≢ b → Exchanged p q xs ys →
+    Turned n (lowest a b) (apply (two SWAP a b)) w xs ys
+swap_turned {n} {a} {b} {w} {p} {q} xs ys first_pair second_pair ne ex =
+    record { here = λ u l h. place u (bit a u) (bit b u) h refl refl; others = λ u l h. ex.others u (λ e. h (ap (lowest a b) e ∙ of_p)) (λ e. h (ap (lowest a b) e ∙ of_q)) }
   where
     en : b ≡ a → ⊥
     en e = ne (sym e)
-
-    ys : List ℤ
-    ys = stored (stored xs p (amplitude_at xs q)) q (amplitude_at xs p)
 
     -- the bits of the two
     p_a : bit a p ≡ true
@@ -133,13 +128,10 @@ swap_turned {n} {a} {b} {w} {p} {q} xs first_pair second_pair ne room =
     of_q : lowest a b q ≡ w
     of_q = ap (lowest a b) (sym (second w self)) ∙ lowest_put a b w false true ne ∙ self
 
-    rest : (u : ℕ) → (u ≡ p → ⊥) → (u ≡ q → ⊥) → amplitude_at ys u ≡ amplitude_at xs u
-    rest u np nq = stored_other (stored xs p (amplitude_at xs q)) q (amplitude_at xs p) u nq ∙ stored_other xs p (amplitude_at xs q) u np
-
     -- with equal bits the place stays
     equal : (u : ℕ) (t : Bool) → bit a u ≡ t → bit b u ≡ t → amplitude_at ys u ≡ apply (two SWAP a b) (amplitude_at xs) u
     equal u t ea eb =
-        rest u (λ e. false≢true (sym p_b ∙ sym (ap (bit b) e) ∙ eb ∙ sym ea ∙ ap (bit a) e ∙ p_a))
+        ex.others u (λ e. false≢true (sym p_b ∙ sym (ap (bit b) e) ∙ eb ∙ sym ea ∙ ap (bit a) e ∙ p_a))
         (λ e. false≢true (sym q_a ∙ sym (ap (bit a) e) ∙ ea ∙ sym eb ∙ ap (bit b) e ∙ q_b))
         ∙ (unfold apply in rw (ea, eb, own u t t ea eb))
 
@@ -148,10 +140,9 @@ swap_turned {n} {a} {b} {w} {p} {q} xs first_pair second_pair ne room =
     place u true true h ea eb = equal u true ea eb
     place u true false h ea eb =
         ap (amplitude_at ys) (sym (own u true false ea eb) ∙ first u h)
-        ∙ stored_other (stored xs p (amplitude_at xs q)) q (amplitude_at xs p) p (λ e. false≢true (sym q_a ∙ sym (ap (bit a) e) ∙ p_a))
-        ∙ stored_same xs p (amplitude_at xs q) (omega (arith, first_pair.top))
+        ∙ ex.at_low
         ∙ (unfold apply in rw (ea, eb, second u h))
     place u false true h ea eb =
         ap (amplitude_at ys) (sym (own u false true ea eb) ∙ second u h)
-        ∙ stored_same (stored xs p (amplitude_at xs q)) q (amplitude_at xs p) (omega (arith, length-stored xs p (amplitude_at xs q), second_pair.top))
+        ∙ ex.at_high
         ∙ (unfold apply in rw (ea, eb, first u h))

@@ -31,7 +31,7 @@ impl Step for Turn {
 
     ghost takes = { λ s. Sized most_doublings };
 
-    fn at(self, column: &mut [i64], n: usize, w: usize) {
+    fn at(self, column: &mut [[i64; 4]], n: usize, w: usize) {
         if has_bit(w, self.a) && has_bit(w, self.b) {
             turn(column, w, self.k);
         }
@@ -43,7 +43,7 @@ impl Step for Turn {
 }
 
 // ω^k where bits a and b are both 1.
-pub fn turn_where(column: &mut [i64], n: usize, a: usize, b: usize, k: u8)
+pub fn turn_where(column: &mut [[i64; 4]], n: usize, a: usize, b: usize, k: u8)
     requires { (a < n) × (b < n) × Room n column.old × AllSized n most_doublings (amplitude_at column.old) }
     ensures { Holds n (turned_where a b k (amplitude_at column.old)) column.new }
 {
@@ -52,7 +52,7 @@ pub fn turn_where(column: &mut [i64], n: usize, a: usize, b: usize, k: u8)
 
 // CZ on a column.
 #[tactic(auto, unfolding(amplitude::specs::Circuit::apply, crate::specs::Turns::turned_where))]
-pub fn apply_cz(column: &mut [i64], n: usize, a: usize, b: usize)
+pub fn apply_cz(column: &mut [[i64; 4]], n: usize, a: usize, b: usize)
     requires { (a < n) × (b < n) × Room n column.old × AllSized n most_doublings (amplitude_at column.old) }
     ensures { Holds n (apply (two CZ a b) (amplitude_at column.old)) column.new }
 {
@@ -76,7 +76,7 @@ impl Step for Cross {
 
     ghost takes = { λ s. Sized most_doublings };
 
-    fn at(self, column: &mut [i64], n: usize, w: usize) {
+    fn at(self, column: &mut [[i64; 4]], n: usize, w: usize) {
         if !has_bit(w, self.q) {
             cross(column, w, w + power(self.q), self.b, self.c);
         }
@@ -88,7 +88,7 @@ impl Step for Cross {
 }
 
 // Amplitudes exchanged along qubit q, times ω^b and ω^c.
-pub fn cross_along(column: &mut [i64], n: usize, q: usize, b: u8, c: u8)
+pub fn cross_along(column: &mut [[i64; 4]], n: usize, q: usize, b: u8, c: u8)
     requires { (q < n) × Room n column.old × AllSized n most_doublings (amplitude_at column.old) }
     ensures { Holds n (crossed q b c (amplitude_at column.old)) column.new }
 {
@@ -111,7 +111,7 @@ impl Step for Cx {
 
     ghost takes = { λ s z. ⊤ };
 
-    fn at(self, column: &mut [i64], n: usize, w: usize) {
+    fn at(self, column: &mut [[i64; 4]], n: usize, w: usize) {
         if !has_bit(w, self.b) && has_bit(w, self.a) {
             exchange(column, w, w + power(self.b));
         }
@@ -123,7 +123,7 @@ impl Step for Cx {
 }
 
 // CX on a column.
-pub fn apply_cx(column: &mut [i64], n: usize, a: usize, b: usize)
+pub fn apply_cx(column: &mut [[i64; 4]], n: usize, a: usize, b: usize)
     requires { (a < n) × (b < n) × (a ≢ b) × Room n column.old }
     ensures { Holds n (apply (two CX a b) (amplitude_at column.old)) column.new }
 {
@@ -146,7 +146,7 @@ impl Step for Swap {
 
     ghost takes = { λ s z. ⊤ };
 
-    fn at(self, column: &mut [i64], n: usize, w: usize) {
+    fn at(self, column: &mut [[i64; 4]], n: usize, w: usize) {
         if !has_bit(w, self.a) && !has_bit(w, self.b) {
             exchange(column, w + power(self.a), w + power(self.b));
         }
@@ -158,7 +158,7 @@ impl Step for Swap {
 }
 
 // SWAP on a column.
-pub fn apply_swap(column: &mut [i64], n: usize, a: usize, b: usize)
+pub fn apply_swap(column: &mut [[i64; 4]], n: usize, a: usize, b: usize)
     requires { (a < n) × (b < n) × (a ≢ b) × Room n column.old }
     ensures { Holds n (apply (two SWAP a b) (amplitude_at column.old)) column.new }
 {

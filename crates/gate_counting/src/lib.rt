@@ -1,4 +1,5 @@
 // Counting the gates of a list: its H gates, and its T gates with their inverses.
+// Stays: bytes, and not the chunks of whole gates, since a count takes any bytes; chunks would ask more of callers.
 #![tactic(auto)]
 
 ghost use Rattle.std.specs.Prelude.{◌≡◌};
@@ -36,7 +37,7 @@ fn is_t(gate: Gate) -> bool
 }
 
 // The H gates of a list.
-// Stays: two chains with a test each; a function over the test would only move the chain.
+// Stays: two chains with a test each; of one function over the test, the contract would say what the test says as a ghost value, as long as the chain.
 pub fn h_gates(gates: &[u8]) -> usize
     ensures { result ≡ h_gates (gates_in gates.now) }
 {

@@ -1,19 +1,16 @@
 -- Gates with their qubits numbered further on, and their bytes: behind another list's, and in a buffer, one behind the other.
 -- Assumes nothing.
 use mathlib.Core.Path.{◌≡◌, refl}
-use Prim.Native.Nat.{ℕ, ◌+◌, ◌*◌}
-use native.Mathlib.Omega.{arith}
+use Prim.Native.Nat.{ℕ, ◌+◌}
 use native.Mathlib.Nat.{zero-add}
 use mathlib.Core.List.{List, [], ◌∷◌, ◌++◌}
-use lib.ListN.{length, take, drop, length-append, length-map}
+use lib.ListN.{length, take, drop, length-append}
 use lib.Seq.{take_at}
-use Rattle.record_format.specs.Gate.{Gate, X, Y, Z, S, S†, T, T†, H, CX, CZ, SWAP, one, two, gate_of, one_qubit_kind, two_qubit_kind, gate_bytes, body_bytes, shift_gate, shift_list}
-use Rattle.record_format.specs.Reading.{raws, gates_in}
+use Rattle.record_format.specs.Gate.{Gate, X, Y, Z, S, S†, T, T†, H, CX, CZ, SWAP, one, two, one_qubit_kind, two_qubit_kind, gate_bytes, body_bytes, shift_gate, shift_list}
 use Rattle.record_format.specs.Writing.{head_bytes, encode}
-use Rattle.record_format.proofs.Encoding.{length-raws, body-append}
-use Rattle.record_format.proofs.GateLaws.{length_shift}
+use Rattle.record_format.proofs.Encoding.{body-append}
 use Rattle.record_format.proofs.Storing.{behind_head}
-use Rattle.joining_types.specs.Inner.{shift_bytes, WholeGates}
+use Rattle.joining_types.specs.Inner.{shift_bytes}
 
 -- a gate's bytes with its qubits further on
 shift_gate_lem : (k : ℕ) (g : Gate) (rest : List ℕ) → shift_bytes k (gate_bytes g ++ rest) ≡ gate_bytes (shift_gate k g) ++ shift_bytes k rest
@@ -47,9 +44,3 @@ encode_joined n gs hs = rw (length-append gs hs, body-append gs hs)
 pub put_behind_lem : (p x l : List ℕ) (at : ℕ) → length p ≡ at
     → take at (p ++ drop at l) ++ x ++ drop (at + length x) (p ++ drop at l) ≡ p ++ x ++ drop (at + length x) l
 put_behind_lem p x l at e = rw (take_at p (drop at l) at e, ← e, behind_head p l (length x))
-
--- bytes of whole gates are three for each gate, however far its qubits are further on
-pub length_part : (k : ℕ) (bytes : List ℕ) → WholeGates bytes
-    → (length bytes ≡ 3 * length (gates_in bytes)) × (length (shift_list k (gates_in bytes)) ≡ length (gates_in bytes))
-length_part k bytes part =
-    (omega (arith, length-map (raws bytes) gate_of, length-raws bytes, part.whole), length_shift k (gates_in bytes))

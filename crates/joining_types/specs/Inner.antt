@@ -1,11 +1,11 @@
 -- What the layer's private functions do, for their contracts. No contract of a public call cites anything of this file.
 -- Assumes nothing.
-use Rattle.std.specs.Prelude.{◌≡◌, ℕ, ◌+◌, ◌%◌, ◌≤◌, cond, List, [], ◌∷◌, ◌++◌, length, leb, Result, Ok, Err}
+use Rattle.std.specs.Prelude.{◌≡◌, ℕ, ◌+◌, ◌≤◌, cond, List, [], ◌∷◌, ◌++◌, length, leb, Result, Ok, Err}
 use Rattle.std.proofs.Math.Option.{none, some}
-use Rattle.record_format.specs.Format.{gate_size, most_qubits, last_one_qubit}
-use Rattle.record_format.specs.Gate.{Gate, AllWithin}
+use Rattle.record_format.specs.Format.{most_qubits, last_one_qubit}
+use Rattle.record_format.specs.Gate.{Gate}
 use Rattle.record_format.specs.Row.{first}
-use Rattle.record_format.specs.Reading.{size, qubits, count, gates_in, record_rows}
+use Rattle.record_format.specs.Reading.{size, qubits, count, record_rows}
 use Rattle.record_format.specs.Writing.{Outcome, outcome, encode}
 use Rattle.record_format.specs.Pair.{PairFault, both_rows}
 use Rattle.record_format.specs.declared.Head.{Head}
@@ -24,11 +24,6 @@ pub record Holds (head : Head) (s : List ℕ) : Type 0 where
 abbrev pub FoundBoth : List ℕ → List ℕ → Result (Head × Head) Refusal → Type 0
 FoundBoth s t (Ok heads) = Holds heads.0 s × Holds heads.1 t
 FoundBoth s t (Err r) = first (both_rows s t []) ≡ some (fault_of r)
-
--- the bytes are those of whole gates within 16 qubits
-pub record WholeGates (bytes : List ℕ) : Type 0 where
-  pub whole : length bytes % gate_size ≡ 0
-  pub within : AllWithin most_qubits (gates_in bytes)
 
 -- a gate's three bytes with its qubits k further on: b of a gate on one qubit stays
 abbrev pub shift_three : ℕ → ℕ → ℕ → ℕ → List ℕ

@@ -5,6 +5,7 @@ ghost use Rattle.std.specs.Prelude.{◌≡◌};
 ghost use Rattle.joining_types.specs.Call.{number_of};
 
 // Why a join is refused. specs/Call.antt gives each case the table's number and, for a list, the index of its gate.
+// Stays: apart from the comparison's refusals, since licensees match on the cases that a call has, and three of these are not among the other's.
 #[derive(Clone, Copy, Debug, PartialEq, Eq)]
 pub enum Refusal {
     // 1 to 7 and 13: the first list

@@ -1,13 +1,13 @@
 // Two accepted lists written as one record, the second list's qubits numbered further on. Inner: licensees use `joining`.
 #![tactic(auto)]
 
-ghost use Rattle.std.specs.Prelude.{◌≡◌, ◌+◌, ◌≤◌, ◌++◌, length, take, drop};
-ghost use Rattle.record_format.specs.Format.{most_qubits};
-ghost use Rattle.record_format.specs.Gate.{Within, body_bytes, shift_gate, shift_list};
-ghost use Rattle.record_format.specs.Reading.{gates_in};
+ghost use Rattle.std.specs.Prelude.{◌≡◌, ◌+◌, ◌*◌, ◌≤◌, ◌++◌, length, take, drop};
+ghost use Rattle.record_format.specs.Format.{gate_size, most_qubits};
+ghost use Rattle.record_format.specs.Gate.{Within, AllWithin, body_bytes, shift_gate, shift_list};
+ghost use Rattle.record_format.specs.Chunks.{gates_of};
 ghost use Rattle.record_format.specs.Typed.{gate_in};
 ghost use Rattle.joining_types.specs.Call.{joined_answer};
-ghost use Rattle.joining_types.specs.Inner.{WholeGates, written};
+ghost use Rattle.joining_types.specs.Inner.{written};
 
 use joining_types::Refusal;
 use record_format::gate::Gate;
@@ -16,6 +16,7 @@ use record_reading::MOST_GATES;
 use record_writing::{write_gate, write_head};
 
 // A gate with its qubits numbered further on by a shift.
+// Stays: a shift is a number of qubits; a type for 16 at most would be made once and opened at each gate.
 #[tactic(auto, unfolding(record_format::specs::Gate::shift_gate))]
 fn shifted(gate: Gate, shift: u8) -> Gate
     requires { (shift ≤ most_qubits) × Within most_qubits (gate_in gate) }
@@ -32,11 +33,11 @@ fn shifted(gate: Gate, shift: u8) -> Gate
 }
 
 // A list's gates at a place of a buffer, their qubits numbered further on by a shift.
-fn write_gates(buffer: &mut [u8], at: usize, shift: u8, gates: &[u8])
-    requires { (at + length gates.now ≤ length buffer.old) × (shift ≤ most_qubits) × WholeGates gates.now }
-    ensures { buffer.new ≡ take at buffer.old ++ body_bytes (shift_list shift (gates_in gates.now)) ++ drop (at + length gates.now) buffer.old }
+fn write_gates(buffer: &mut [u8], at: usize, shift: u8, gates: &[[u8; 3]])
+    requires { (at + gate_size * length gates.now ≤ length buffer.old) × (shift ≤ most_qubits) × AllWithin most_qubits (gates_of gates.now) }
+    ensures { buffer.new ≡ take at buffer.old ++ body_bytes (shift_list shift (gates_of gates.now)) ++ drop (at + gate_size * length gates.now) buffer.old }
 {
-    for (i, bytes) in gates.as_chunks::<3>().0.iter().enumerate() {
+    for (i, bytes) in gates.iter().enumerate() {
         let gate = shifted(Gate::from(*bytes), shift);
         write_gate(buffer, at + GATE_SIZE * i, gate.into());
     }
@@ -44,28 +45,29 @@ fn write_gates(buffer: &mut [u8], at: usize, shift: u8, gates: &[u8])
 
 // The gates of two accepted lists as one record on n qubits at the front of the buffer, the second list's qubits numbered further on by a
 // shift: 4, then 11.
+#[tactic(auto, using(joining_types::proofs::Writing::gates_many, joining_types::proofs::Writing::buffer_short, record_format::proofs::Chunks::length_gates_of, record_format::proofs::GateLaws::length_shift))]
 pub fn write_joined(
     n: usize,
-    first: &[u8],
-    second: &[u8],
+    first: &[[u8; 3]],
+    second: &[[u8; 3]],
     shift: u8,
     buffer: &mut [u8],
 ) -> Result<usize, Refusal>
-    requires { WholeGates first.now × WholeGates second.now × (n ≤ most_qubits) × (shift ≤ most_qubits) }
-    ensures answers { joined_answer result ≡ (written n (gates_in first.now) (shift_list shift (gates_in second.now)) buffer.old).answer }
-    ensures leaves { buffer.new ≡ (written n (gates_in first.now) (shift_list shift (gates_in second.now)) buffer.old).buffer }
+    requires within { AllWithin most_qubits (gates_of first.now) × AllWithin most_qubits (gates_of second.now) }
+    requires few { (n ≤ most_qubits) × (shift ≤ most_qubits) }
+    ensures answers { joined_answer result ≡ (written n (gates_of first.now) (shift_list shift (gates_of second.now)) buffer.old).answer }
+    ensures leaves { buffer.new ≡ (written n (gates_of first.now) (shift_list shift (gates_of second.now)) buffer.old).buffer }
 {
-    let gates = first.len() / GATE_SIZE + second.len() / GATE_SIZE;
+    let gates = first.len() + second.len();
     if gates > MOST_GATES {
         return Err(Refusal::TooManyGates);
     }
-    let behind = HEAD_SIZE + first.len();
-    let size = behind + second.len();
+    let size = HEAD_SIZE + GATE_SIZE * gates;
     if buffer.len() < size {
         return Err(Refusal::BufferShort);
     }
     write_head(buffer, n as u8, gates as u16);
     write_gates(buffer, HEAD_SIZE, 0, first);
-    write_gates(buffer, behind, shift, second);
+    write_gates(buffer, HEAD_SIZE + GATE_SIZE * first.len(), shift, second);
     Ok(size)
 }

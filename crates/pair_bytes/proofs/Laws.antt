@@ -2,7 +2,7 @@
 -- a program reads of its input tells as much as the whole.
 -- Assumes nothing.
 use Prim.Native.Nat.{ℕ}
-use mathlib.Core.Path.{◌≡◌, refl, sym, ◌∙◌}
+use mathlib.Core.Path.{◌≡◌, refl, sym, ap, ◌∙◌}
 use mathlib.Core.Bool.{Bool, true, false, cond}
 use mathlib.Core.Option
 use mathlib.Core.Option.{Option, none, some}
@@ -30,6 +30,23 @@ abbrev table_by : Bool → Reading → Reading → List (Row PairFault) → Opti
 table_by b (refused f) q below = some (in_first f)
 table_by b (accepted n gs) (refused f) below = some (in_second f)
 table_by b (accepted n gs) (accepted m hs) below = first (pair_row 12 b ∷ (pair_rows n m gs hs ++ below))
+
+-- what holds of each kind of readings of two lists, with what an accepted list has in it for its qubits and gates, holds of the lists
+pub by_cases :
+    (P : ℕ → List Gate → List Gate → Reading → Reading → Type 0)
+    → ((n : ℕ) (gs hs : List Gate) (f : Fault) (q : Reading) → P n gs hs (refused f) q)
+    → ((n : ℕ) (gs hs : List Gate) (m : ℕ) (is : List Gate) (f : Fault) → P n gs hs (accepted m is) (refused f))
+    → ((n : ℕ) (gs : List Gate) (m : ℕ) (hs : List Gate) → P n gs hs (accepted n gs) (accepted m hs))
+    → (s t : List ℕ) → P (qubits s) (gates s) (gates t) (read s) (read t)
+by_cases P in-one in-other good s t = go (read s) refl (read t) refl
+  where
+    go : (p : Reading) → read s ≡ p → (q : Reading) → read t ≡ q → P (qubits s) (gates s) (gates t) p q
+    go (refused f) e q d = in-one (qubits s) (gates s) (gates t) f q
+    go (accepted n gs) e (refused f) d = in-other (qubits s) (gates s) (gates t) n gs f
+    go (accepted n gs) e (accepted m hs) d =
+        let (_, same-n, same-gs) = passed s n gs e in
+        let (_, _, same-hs) = passed t m hs d in
+        rw (same-n, same-gs, same-hs) (good n gs m hs)
 
 module _ (s t : List ℕ) (below : List (Row PairFault)) where
   -- the rows of the first list
@@ -87,6 +104,16 @@ line_by_fault line_of true fault line (Ok outcome) (none-found, same) = rw none-
 line_by_fault line_of false fault line (Ok outcome) (none-found, same) = rw none-found same
 line_by_fault line_of b fault line (Err refusal) found = rw found refl
 
+-- the line of an answer to two records, with 12 in its place, is what the program's table gives, where the comparison's own rows are all of the
+-- pair
+pub line_by_table :
+    {O : Type 0} (line_of : O → List ℕ) (s t : List ℕ) (below : List (Row PairFault)) (line : List ℕ) (answer : Result O Refusal)
+    → AllFaults (λ f. were_read f ≡ true) below → AnswerIs line_of (pair_fault (read s) (read t) below) line answer
+    → answer_line line_of (follow s t) answer ≡ unless_refused (first (program_table s t below)) line
+line_by_table line_of s t below line answer all found =
+    line_by_fault line_of (follow s t) (pair_fault (read s) (read t) below) line answer found
+    ∙ ap (λ (o : Option PairFault). unless_refused o line) (sym (twelve_in_place s t below all))
+
 -- a program with these rows below the pair's, and this line for a pair that passes
 module _ (below : ℕ → List Gate → List Gate → List (Row PairFault)) (line : ℕ → List Gate → List Gate → List ℕ) where
   -- what it prints
@@ -102,17 +129,10 @@ module _ (below : ℕ → List Gate → List Gate → List (Row PairFault)) (lin
 
   -- it is the same
   printed_is : (s t : List ℕ) → printed s t ≡ printed_by (follow s t) (read s) (read t)
-  printed_is s t = rw (by_readings s t (below (qubits s) (gates s) (gates t))) (go (read s) refl (read t) refl)
-    where
-      go : (p : Reading) → read s ≡ p → (q : Reading) → read t ≡ q
-          → unless_refused (table_by (follow s t) p q (below (qubits s) (gates s) (gates t))) (line (qubits s) (gates s) (gates t))
-          ≡ printed_by (follow s t) p q
-      go (refused f) e q d = refl
-      go (accepted n gs) e (refused f) d = refl
-      go (accepted n gs) e (accepted m hs) d =
-          let (_, same-n, same-gs) = passed s n gs e in
-          let (_, _, same-hs) = passed t m hs d in
-          rw (same-n, same-gs, same-hs) refl
+  printed_is s t =
+      rw (by_readings s t (below (qubits s) (gates s) (gates t)))
+      (by_cases (λ n gs hs p q. unless_refused (table_by (follow s t) p q (below n gs hs)) (line n gs hs) ≡ printed_by (follow s t) p q)
+      (λ n gs hs f q. refl) (λ n gs hs m is f. refl) (λ n gs m hs. refl) s t)
 
   -- bytes that tell all that matters print the same
   told_same : {s' s t' t : List ℕ} → Tells s' s → Tells t' t → printed s' t' ≡ printed s t

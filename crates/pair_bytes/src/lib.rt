@@ -84,7 +84,7 @@ pub trait Comparison {
         ensures { answers first.now second.now result };
 
     fn write_outcome(outcome: Self::Outcome) -> Line
-        ensures { result.bytes ≡ line_of outcome };
+        ensures { result.items ≡ line_of outcome };
 
     // an answer's line, with number 12 in its place, is what the program is to print
     ghost printed: { (s t : List ℕ) (answer : Result Self.Outcome Refusal) → answers s t answer
@@ -95,7 +95,7 @@ pub trait Comparison {
 
     // The line of what the comparison answered, or of number 12 where bytes follow one of the records.
     final fn write_answer(answer: Result<Self::Outcome, Refusal>, follow: bool) -> Line
-        ensures { result.bytes ≡ answer_line line_of follow answer }
+        ensures { result.items ≡ answer_line line_of follow answer }
     {
         match answer {
             Ok(_) if follow => write_refusal(BYTES_FOLLOW),
@@ -106,14 +106,14 @@ pub trait Comparison {
 
     // The line for two files, each of them one record.
     final fn write_pair(first: &[u8], second: &[u8]) -> Line
-        ensures { result.bytes ≡ pair_line first.now second.now }
+        ensures { result.items ≡ pair_line first.now second.now }
     {
         Self::write_answer(Self::compare(first, second), bytes_follow(first, second))
     }
 
     // The line for a stream of two records, the second directly after the first.
     final fn write_stream(stream: &[u8]) -> Line
-        ensures { result.bytes ≡ stream_line pair_line stream.now }
+        ensures { result.items ≡ stream_line pair_line stream.now }
     {
         Self::write_pair(first_of(stream), second_of(stream))
     }

@@ -3,8 +3,7 @@
 // why, after the program's own name.
 #![tactic(auto)]
 
-ghost use Rattle.std.specs.Prelude.{◌≡◌, length, IfSome, MatchResult, Some, None};
-ghost use Rattle.std.specs.Counts.{IsPrefixLen};
+ghost use Rattle.std.specs.Prelude.{◌≡◌, ◌≤◌, length, IfSome, MatchResult, Some, None};
 ghost use Rattle.pair_bytes.specs.Limits.{input_size, stream_size};
 
 mod reading;
@@ -12,17 +11,22 @@ mod reading;
 use line_bytes::Line;
 use pair_bytes::Comparison;
 use reading::{NAME_SIZE, name_at, read_all, read_file};
+use record_format::{GATE_SIZE, HEAD_SIZE};
+use record_reading::MOST_GATES;
 use std::env::FillError;
 use std::io::Error;
 use std::rt::{Env, Files};
 use std::{io, str};
 
-// The bytes of a file that are read: those of the longest record, 1,541, and one more, which tells that others follow. That a line needs no
-// more is proved of pair_bytes' `input_size` (`far_enough` in its proofs/Laws.antt).
-const INPUT_SIZE: usize = 1542;
+// The bytes of the longest record.
+const LONGEST: usize = HEAD_SIZE + GATE_SIZE * MOST_GATES;
+
+// The bytes of a file that are read: those of the longest record, and one more, which tells that others follow. That a line needs no more is
+// proved of pair_bytes' `input_size` (`far_enough` in its proofs/Laws.antt).
+const INPUT_SIZE: usize = LONGEST + 1;
 
 // The bytes of a stream that are read: those of two such records, and one more.
-const STREAM_SIZE: usize = 3083;
+const STREAM_SIZE: usize = 2 * LONGEST + 1;
 
 // What stands between the words for an error and its number.
 const BEFORE_NUMBER: &str = " (os error ";
@@ -46,30 +50,33 @@ pub struct Program<'a, R> {
 impl<'a, R: Env + Files + io::Input + Print + Eprint + Alloc> Program<'a, R> {
     // Compares the two records that the arguments or standard input give, and prints the line.
     pub fn run<C: Comparison>(&self) {
-        let line = match self.find_source() {
-            Some(Source::Stream) => self.answer_stream::<C>(),
-            Some(Source::Files) => self.answer_files::<C>(),
-            None => None,
-        };
-        if let Some(line) = line {
+        if let Some(line) = self.answer::<C>() {
             self.print(&line);
+        }
+    }
+
+    // The line for the two records; none after a message.
+    fn answer<C: Comparison>(&self) -> Option<Line> {
+        match self.find_source()? {
+            Source::Stream => self.answer_stream::<C>(),
+            Source::Files => self.answer_files::<C>(),
         }
     }
 
     // The line for standard input.
     fn answer_stream<C: Comparison>(&self) -> Option<Line> {
-        let mut stream = [0u8; STREAM_SIZE];
-        let size = self.read_stream(&mut stream)?;
-        Some(C::write_stream(&stream[..size]))
+        let mut buffer = [0u8; STREAM_SIZE];
+        let stream = self.read_stream(&mut buffer)?;
+        Some(C::write_stream(stream))
     }
 
     // The line for the two files that the arguments name.
     fn answer_files<C: Comparison>(&self) -> Option<Line> {
-        let mut first = [0u8; INPUT_SIZE];
-        let mut second = [0u8; INPUT_SIZE];
-        let one = self.read_argument(1, &mut first)?;
-        let other = self.read_argument(2, &mut second)?;
-        Some(C::write_pair(&first[..one], &second[..other]))
+        let mut one = [0u8; INPUT_SIZE];
+        let mut other = [0u8; INPUT_SIZE];
+        let first = self.read_argument(1, &mut one)?;
+        let second = self.read_argument(2, &mut other)?;
+        Some(C::write_pair(first, second))
     }
 
     // The program's name as a message shows it.
@@ -96,26 +103,26 @@ impl<'a, R: Env + Files + io::Input + Print + Eprint + Alloc> Program<'a, R> {
     }
 
     // The bytes of the file that an argument names, as far as it matters; a message where that fails.
-    fn read_argument(&self, place: usize, file: &mut [u8; INPUT_SIZE]) -> Option<usize>
-        ensures count { IfSome result (λ n. IsPrefixLen n file.new) }
-        ensures room { length file.new ≡ input_size }
+    fn read_argument<'b>(&self, place: usize, buffer: &'b mut [u8; INPUT_SIZE]) -> Option<&'b [u8]>
+        ensures within { IfSome result (λ file. length file.now ≤ length buffer.old) }
+        ensures room { length buffer.old ≡ input_size }
     {
         let mut name = [0u8; NAME_SIZE];
         let name = self.tell("a file's name", name_at(self.rt, place, &mut name))?;
-        self.tell(name, read_file(self.rt, name, file))
+        self.tell(name, read_file(self.rt, name, buffer))
     }
 
     // Standard input, as far as it matters; a message where that fails.
-    fn read_stream(&self, stream: &mut [u8; STREAM_SIZE]) -> Option<usize>
-        ensures count { IfSome result (λ n. IsPrefixLen n stream.new) }
-        ensures room { length stream.new ≡ stream_size }
+    fn read_stream<'b>(&self, buffer: &'b mut [u8; STREAM_SIZE]) -> Option<&'b [u8]>
+        ensures within { IfSome result (λ stream. length stream.now ≤ length buffer.old) }
+        ensures room { length buffer.old ≡ stream_size }
     {
-        self.tell("standard input", read_all(&mut self.rt.reader(), stream))
+        self.tell("standard input", read_all(&mut self.rt.reader(), buffer))
     }
 
     // A whole line on standard output in one write, or a message.
     fn print(&self, line: &Line) {
-        self.tell("standard output", self.rt.write_all(line.as_bytes()));
+        self.tell("standard output", self.rt.write_all(line.as_slice()));
     }
 
     // What was done, or a message that says what failed.

@@ -1,5 +1,5 @@
 // Reading a file or standard input: the bytes up to its end or as far as a buffer goes.
-ghost use Rattle.std.specs.Io.{ReadsAtMost};
+ghost use Rattle.std.specs.Prelude.{◌≤◌, length, IfOk};
 
 use std::env::FillError;
 use std::io::{Error, ErrorKind, Read};
@@ -20,17 +20,17 @@ const NO_ARGUMENT: i32 = 22;
 
 const NAME_TOO_LONG: i32 = 36;
 
-// Reads until the input ends, the buffer is full or a read fails; a read that a signal interrupts is done again.
-pub fn read_all<I: Read>(from: &mut I, buffer: &mut [u8]) -> io::Result<usize>
-    ensures { ReadsAtMost result buffer.new }
+// The bytes that are read into a buffer until the input ends, the buffer is full or a read fails; a read that a signal interrupts is done again.
+pub fn read_all<'a, I: Read>(from: &mut I, buffer: &'a mut [u8]) -> io::Result<&'a [u8]>
+    ensures { IfOk result (λ read. length read.now ≤ length buffer.old) }
 {
     let mut done = 0;
     for _turn in 0..MOST_TURNS {
         if done == buffer.len() {
-            return Ok(done);
+            return Ok(buffer);
         }
         match from.read(&mut buffer[done..]) {
-            Ok(0) => return Ok(done),
+            Ok(0) => return Ok(&buffer[..done]),
             Ok(count) => done += count,
             Err(why) if why.kind() == ErrorKind::Interrupted => {}
             Err(why) => return Err(why),
@@ -39,9 +39,9 @@ pub fn read_all<I: Read>(from: &mut I, buffer: &mut [u8]) -> io::Result<usize>
     Err(Error::from_raw_os_error(INTERRUPTED))
 }
 
-// The bytes of the file of a name.
-pub fn read_file<R: Files>(rt: &R, name: &str, buffer: &mut [u8]) -> io::Result<usize>
-    ensures { ReadsAtMost result buffer.new }
+// The bytes of the file of a name, as far as a buffer goes.
+pub fn read_file<'a, R: Files>(rt: &R, name: &str, buffer: &'a mut [u8]) -> io::Result<&'a [u8]>
+    ensures { IfOk result (λ read. length read.now ≤ length buffer.old) }
 {
     let mut file = fs::open(rt, name)?;
     read_all(&mut file, buffer)

@@ -3,7 +3,7 @@
 // Stays: sets and coefficients, the two lent workspaces, are two parameters everywhere; `Phase` of phase_sum_types says why.
 #![tactic(auto)]
 
-ghost use Rattle.std.specs.Prelude.{◌≡◌, ℕ, ◌-◌, ◌%◌, ◌≤◌, List, length};
+ghost use Rattle.std.specs.Prelude.{◌≡◌, ℕ, ◌-◌, ◌≤◌, List, length};
 ghost use Rattle.record_format.specs.Gate.{inverse_list};
 ghost use Rattle.record_format.specs.Reading.{gates_in};
 ghost use Rattle.phase_sum_meaning.specs.Sets.{from};
@@ -15,7 +15,7 @@ ghost use Rattle.phase_sum_types.specs.Unmerged.{miter_in, append_gates, Runnabl
 use phase_sum_gates::run_gate;
 use phase_sum_merging::canonical;
 use phase_sum_terms::wires::Wires;
-use phase_sum_types::{Parity, Phase, Run, Set, Sum};
+use phase_sum_types::{Parity, Phase, Run, Set, Sum, Variable};
 use record_format::gate::Gate;
 
 // A whole list of gates, by its bytes, in list order.
@@ -27,12 +27,12 @@ pub fn forwards(
     sets: &mut [u64],
     coeffs: &mut [u8],
 ) -> Run
-    requires { (length gates.now % 3 ≡ 0) × Runnable run (gates_in gates.now) (lent wires.old sets.old coeffs.old) × Level sets.old coeffs.old }
+    requires { Runnable run (gates_in gates.now) (lent wires.old sets.old coeffs.old) × Level sets.old coeffs.old }
     ensures { RunsAll (gates_in gates.now) run result (lent wires.old sets.old coeffs.old) (lent wires.new sets.new coeffs.new) }
 {
     let mut now = run;
     for bytes in gates.as_chunks::<3>().0 {
-        now = run_gate(now, Gate::from(*bytes), wires, sets, coeffs);
+        run_gate(&mut now, Gate::from(*bytes), wires, sets, coeffs);
     }
     now
 }
@@ -45,12 +45,12 @@ pub fn backwards(
     sets: &mut [u64],
     coeffs: &mut [u8],
 ) -> Run
-    requires { (length gates.now % 3 ≡ 0) × Runnable run (inverse_list (gates_in gates.now)) (lent wires.old sets.old coeffs.old) × Level sets.old coeffs.old }
+    requires { Runnable run (inverse_list (gates_in gates.now)) (lent wires.old sets.old coeffs.old) × Level sets.old coeffs.old }
     ensures { RunsAll (inverse_list (gates_in gates.now)) run result (lent wires.old sets.old coeffs.old) (lent wires.new sets.new coeffs.new) }
 {
     let mut now = run;
     for bytes in gates.as_chunks::<3>().0.iter().rev() {
-        now = run_gate(now, Gate::from(*bytes).inverse(), wires, sets, coeffs);
+        run_gate(&mut now, Gate::from(*bytes).inverse(), wires, sets, coeffs);
     }
     now
 }
@@ -62,20 +62,11 @@ fn start(wires: &mut Wires) -> Run
 {
     let n = wires.len();
     for q in 0..n {
-        wires.set(
-            q,
-            Parity {
-                set: Set::single(q as u32),
-                flipped: false,
-            },
-        );
+        wires.set(q, Parity::from(Variable::new(q as u32)));
     }
     Run {
         next: n as u32,
-        phase: Phase {
-            constant: 0,
-            count: 0,
-        },
+        phase: Phase::default(),
     }
 }
 
@@ -86,12 +77,14 @@ fn path_variables(n: u32, next: u32) -> Set
 {
     let mut set = Set::empty();
     for v in n..next {
-        set = set | Set::single(v);
+        set = set | Set::single(Variable::new(v));
     }
     set
 }
 
 // The first list run on the sum of no gates, then the second inverted, both by their bytes, on as many qubits as there are wires.
+// Stays: two lists as two parameters, here and below: what `Buildable` says of them goes by n, the number of the wires; a struct with an n of its
+// own would have each contract say that both are the same.
 fn run_pair(
     first: &[u8],
     second: &[u8],

@@ -11,10 +11,10 @@ ghost use Rattle.phase_sum_types.specs.Workspace.{sets_at, Level, phase_of, Phas
 ghost use Rattle.phase_sum_types.specs.Unmerged.{put_behind, sum_in, Runnable, Leaves, Runs};
 ghost use Rattle.phase_sum_types.specs.Inner.{on_h, append_phase};
 
-use phase_sum_moving::{add_wire, both, swap_wires};
+use phase_sum_moving::{add_wire, swap_wires};
 use phase_sum_terms::terms::{add, append, negate};
 use phase_sum_terms::wires::Wires;
-use phase_sum_types::{Parity, Phase, Run, Set};
+use phase_sum_types::{Parity, Phase, Run, Variable};
 use record_format::gate::{Gate, OneQubit, TwoQubit};
 
 // A phase c on a wire, as one term more: on a complemented parity, c to the constant and the term −c.
@@ -43,93 +43,76 @@ pub fn put_product(phase: Phase, u: Parity, v: Parity, sets: &mut [u64], coeffs:
 {
     let once = put_phase(phase, 2, u, sets, coeffs);
     let twice = put_phase(once, 2, v, sets, coeffs);
-    put_phase(twice, 6, both(u, v), sets, coeffs)
+    put_phase(twice, 6, u ^ v, sets, coeffs)
 }
 
 // A phase c on wire q.
-fn diagonal(run: Run, c: u8, q: usize, wires: &Wires, sets: &mut [u64], coeffs: &mut [u8]) -> Run
-    requires { (q < length wires.now) × (length wires.now ≤ run.next) × (run.phase.count < length coeffs.old) × Level sets.old coeffs.old }
-    ensures { Leaves (append_phase c q (sum_in run (lent wires.now sets.old coeffs.old))) run.phase.count result (lent wires.now sets.old coeffs.old) (lent wires.now sets.new coeffs.new) }
+fn diagonal(run: &mut Run, c: u8, q: usize, wires: &Wires, sets: &mut [u64], coeffs: &mut [u8])
+    requires { (q < length wires.now) × (length wires.now ≤ run.old.next) × (run.old.phase.count < length coeffs.old) × Level sets.old coeffs.old }
+    ensures { Leaves (append_phase c q (sum_in run.old (lent wires.now sets.old coeffs.old))) run.old.phase.count run.new (lent wires.now sets.old coeffs.old) (lent wires.now sets.new coeffs.new) }
 {
-    Run {
-        phase: put_phase(run.phase, c, wires.get(q), sets, coeffs),
-        ..run
-    }
+    run.phase = put_phase(run.phase, c, wires.get(q), sets, coeffs);
 }
 
 // Y: Z, then X and the factor ω².
+// Stays: here and at the next ones the gate's room is unfolded where it runs; a lemma of `Runnable` would name each gate's number again.
 #[tactic(auto, unfolding(amplitude::specs::Circuit::tally, phase_sum_meaning::specs::Room::room_for))]
-fn y_gate(run: Run, q: usize, wires: &mut Wires, sets: &mut [u64], coeffs: &mut [u8]) -> Run
-    requires { Runnable run (one Y q ∷ []) (lent wires.old sets.old coeffs.old) × Level sets.old coeffs.old }
-    ensures { Runs (one Y q) run result (lent wires.old sets.old coeffs.old) (lent wires.new sets.new coeffs.new) }
+fn y_gate(run: &mut Run, q: usize, wires: &mut Wires, sets: &mut [u64], coeffs: &mut [u8])
+    requires { Runnable run.old (one Y q ∷ []) (lent wires.old sets.old coeffs.old) × Level sets.old coeffs.old }
+    ensures { Runs (one Y q) run.old run.new (lent wires.old sets.old coeffs.old) (lent wires.new sets.new coeffs.new) }
 {
     let phase = put_phase(run.phase, 4, wires.get(q), sets, coeffs);
     wires.flip(q);
-    Run {
-        phase: Phase {
-            constant: add(phase.constant, 2),
-            ..phase
-        },
-        ..run
-    }
+    run.phase = Phase {
+        constant: add(phase.constant, 2),
+        ..phase
+    };
 }
 
 // H: the next path variable comes in, and 4 on its product with the old wire.
 #[tactic(auto, unfolding(amplitude::specs::Circuit::tally, phase_sum_meaning::specs::Room::room_for))]
-fn hadamard(run: Run, q: usize, wires: &mut Wires, sets: &mut [u64], coeffs: &mut [u8]) -> Run
-    requires { Runnable run (on_h q ∷ []) (lent wires.old sets.old coeffs.old) × Level sets.old coeffs.old }
-    ensures { Runs (on_h q) run result (lent wires.old sets.old coeffs.old) (lent wires.new sets.new coeffs.new) }
+fn hadamard(run: &mut Run, q: usize, wires: &mut Wires, sets: &mut [u64], coeffs: &mut [u8])
+    requires { Runnable run.old (on_h q ∷ []) (lent wires.old sets.old coeffs.old) × Level sets.old coeffs.old }
+    ensures { Runs (on_h q) run.old run.new (lent wires.old sets.old coeffs.old) (lent wires.new sets.new coeffs.new) }
 {
-    let new = Parity {
-        set: Set::single(run.next),
-        flipped: false,
-    };
-    let phase = put_product(run.phase, wires.get(q), new, sets, coeffs);
+    let new = Parity::from(Variable::new(run.next));
+    run.next += 1;
+    run.phase = put_product(run.phase, wires.get(q), new, sets, coeffs);
     wires.set(q, new);
-    Run {
-        next: run.next + 1,
-        phase,
-    }
 }
 
 // CZ: 4 on the product of two wires.
 #[tactic(auto, unfolding(amplitude::specs::Circuit::tally, phase_sum_meaning::specs::Room::room_for))]
 fn controlled_z(
-    run: Run,
+    run: &mut Run,
     a: usize,
     b: usize,
     wires: &Wires,
     sets: &mut [u64],
     coeffs: &mut [u8],
-) -> Run
-    requires { Runnable run (two CZ a b ∷ []) (lent wires.now sets.old coeffs.old) × Level sets.old coeffs.old }
-    ensures { Runs (two CZ a b) run result (lent wires.now sets.old coeffs.old) (lent wires.now sets.new coeffs.new) }
+)
+    requires { Runnable run.old (two CZ a b ∷ []) (lent wires.now sets.old coeffs.old) × Level sets.old coeffs.old }
+    ensures { Runs (two CZ a b) run.old run.new (lent wires.now sets.old coeffs.old) (lent wires.now sets.new coeffs.new) }
 {
-    Run {
-        phase: put_product(run.phase, wires.get(a), wires.get(b), sets, coeffs),
-        ..run
-    }
+    run.phase = put_product(run.phase, wires.get(a), wires.get(b), sets, coeffs);
 }
 
 // A gate on one qubit.
 #[tactic(auto, unfolding(amplitude::specs::Circuit::tally, phase_sum_meaning::specs::Room::room_for, phase_sum_meaning::specs::Building::gate_by))]
 #[inline(always)]
 fn run_one(
-    run: Run,
+    run: &mut Run,
     kind: OneQubit,
     q: usize,
     wires: &mut Wires,
     sets: &mut [u64],
     coeffs: &mut [u8],
-) -> Run
-    requires { Runnable run (one (one_in kind) q ∷ []) (lent wires.old sets.old coeffs.old) × Level sets.old coeffs.old }
-    ensures { Runs (one (one_in kind) q) run result (lent wires.old sets.old coeffs.old) (lent wires.new sets.new coeffs.new) }
+)
+    requires { Runnable run.old (one (one_in kind) q ∷ []) (lent wires.old sets.old coeffs.old) × Level sets.old coeffs.old }
+    ensures { Runs (one (one_in kind) q) run.old run.new (lent wires.old sets.old coeffs.old) (lent wires.new sets.new coeffs.new) }
 {
     match kind {
-        OneQubit::X => {
-            wires.flip(q);
-            run
-        }
+        OneQubit::X => wires.flip(q),
         OneQubit::Y => y_gate(run, q, wires, sets, coeffs),
         OneQubit::Z => diagonal(run, 4, q, wires, sets, coeffs),
         OneQubit::S => diagonal(run, 2, q, wires, sets, coeffs),
@@ -143,40 +126,42 @@ fn run_one(
 // A gate on two qubits.
 #[inline(always)]
 fn run_two(
-    run: Run,
+    run: &mut Run,
     kind: TwoQubit,
     a: usize,
     b: usize,
     wires: &mut Wires,
     sets: &mut [u64],
     coeffs: &mut [u8],
-) -> Run
-    requires { Runnable run (two (two_in kind) a b ∷ []) (lent wires.old sets.old coeffs.old) × Level sets.old coeffs.old }
-    ensures { Runs (two (two_in kind) a b) run result (lent wires.old sets.old coeffs.old) (lent wires.new sets.new coeffs.new) }
+)
+    requires { Runnable run.old (two (two_in kind) a b ∷ []) (lent wires.old sets.old coeffs.old) × Level sets.old coeffs.old }
+    ensures { Runs (two (two_in kind) a b) run.old run.new (lent wires.old sets.old coeffs.old) (lent wires.new sets.new coeffs.new) }
 {
     match kind {
-        TwoQubit::Cx => {
-            add_wire(wires, a, b);
-            run
-        }
+        TwoQubit::Cx => add_wire(wires, a, b),
         TwoQubit::Cz => controlled_z(run, a, b, wires, sets, coeffs),
-        TwoQubit::Swap => {
-            swap_wires(wires, a, b);
-            run
-        }
+        TwoQubit::Swap => swap_wires(wires, a, b),
     }
 }
 
-// A gate.
+// A gate. One that only moves wires writes nothing of the run.
 #[inline(always)]
-pub fn run_gate(run: Run, gate: Gate, wires: &mut Wires, sets: &mut [u64], coeffs: &mut [u8]) -> Run
-    requires { Runnable run (gate_in gate ∷ []) (lent wires.old sets.old coeffs.old) × Level sets.old coeffs.old }
-    ensures { Runs (gate_in gate) run result (lent wires.old sets.old coeffs.old) (lent wires.new sets.new coeffs.new) }
+pub fn run_gate(run: &mut Run, gate: Gate, wires: &mut Wires, sets: &mut [u64], coeffs: &mut [u8])
+    requires { Runnable run.old (gate_in gate ∷ []) (lent wires.old sets.old coeffs.old) × Level sets.old coeffs.old }
+    ensures { Runs (gate_in gate) run.old run.new (lent wires.old sets.old coeffs.old) (lent wires.new sets.new coeffs.new) }
 {
     match gate {
-        Gate::One { kind, q } => run_one(run, kind, q as usize, wires, sets, coeffs),
+        Gate::One { kind, q } => run_one(run, kind, usize::from(q), wires, sets, coeffs),
         Gate::Two { kind, a, b } => {
-            run_two(run, kind, a as usize, b as usize, wires, sets, coeffs)
+            run_two(
+                run,
+                kind,
+                usize::from(a),
+                usize::from(b),
+                wires,
+                sets,
+                coeffs,
+            )
         }
     }
 }

@@ -1,2 +1,3 @@
--- Laws behind the sort by low words.
+-- Laws behind the code of this crate: sets with one high word, and truth as a number.
 pub mod Lows
+pub mod Digits

@@ -2,24 +2,11 @@
 // The wires are changed in place.
 #![tactic(auto)]
 
-ghost use Rattle.std.specs.Prelude.{◌≡◌, ◌<◌, length};
+ghost use Rattle.std.specs.Prelude.{◌<◌, length};
 ghost use Rattle.record_format.specs.Gate.{two, CX, SWAP};
-ghost use Rattle.phase_sum_meaning.specs.Parity.{◌⊕◌};
-ghost use Rattle.phase_sum_types.specs.Workspace.{parity_of};
 ghost use Rattle.phase_sum_types.specs.Unmerged.{Moves};
 
 use phase_sum_terms::wires::Wires;
-use phase_sum_types::Parity;
-
-// The exclusive or of two wires.
-pub fn both(u: Parity, v: Parity) -> Parity
-    ensures { parity_of result ≡ parity_of u ⊕ parity_of v }
-{
-    Parity {
-        set: u.set ^ v.set,
-        flipped: u.flipped ^ v.flipped,
-    }
-}
 
 // CX: the control added to the target.
 #[tactic(auto, unfolding(phase_sum_meaning::specs::Building::gate_by, phase_sum_meaning::specs::Building::set_wire))]
@@ -27,7 +14,7 @@ pub fn add_wire(wires: &mut Wires, control: usize, target: usize)
     requires { (control < length wires.old) × (target < length wires.old) }
     ensures { Moves (two CX control target) wires.old wires.new }
 {
-    let sum = both(wires.get(target), wires.get(control));
+    let sum = wires.get(target) ^ wires.get(control);
     wires.set(target, sum);
 }
 

@@ -5,25 +5,24 @@
 
 ghost use Rattle.std.specs.Prelude.{◌≡◌, ◌+◌, ◌<◌, ◌≤◌, cond, length, eqb};
 ghost use Rattle.phase_sum_meaning.specs.Stepping.{replace, take_out, turned};
-ghost use Rattle.phase_sum_meaning.specs.Room.{most_variables};
 ghost use Rattle.phase_sum_types.specs.Workspace.{set_of, parity_of, Level, lent, Stands, Changed, TermsChanged};
 
 use phase_sum_merging::canonical;
 use phase_sum_passing::{replace_in_wires, replace_unmerged, take_out_unmerged};
 use phase_sum_terms::terms::{add, append};
 use phase_sum_terms::wires::Wires;
-use phase_sum_types::{Parity, Phase, Set, Sum};
+use phase_sum_types::{Halves, Parity, Phase, Sum, Variable};
 
 // The variable z replaced by the parity p in all terms and wires, and the terms merged.
 pub fn replace(
     sum: Sum,
-    z: u32,
+    z: Variable,
     p: Parity,
     wires: &mut Wires,
     sets: &mut [u64],
     coeffs: &mut [u8],
 ) -> Sum
-    requires { (z < most_variables) × Stands sum (lent wires.old sets.old coeffs.old) × Level sets.old coeffs.old }
+    requires { Stands sum (lent wires.old sets.old coeffs.old) × Level sets.old coeffs.old }
     ensures { Changed (replace z (parity_of p)) sum.phase.count sum result (lent wires.old sets.old coeffs.old) (lent wires.new sets.new coeffs.new) }
 {
     replace_in_wires(wires, z, p);
@@ -38,8 +37,8 @@ pub fn replace(
 }
 
 // The variable y taken out of every term, and the terms merged.
-pub fn take_out(sum: Sum, y: u32, sets: &mut [u64], coeffs: &mut [u8]) -> Sum
-    requires { (y < most_variables) × Level sets.old coeffs.old × (sum.phase.count ≤ length coeffs.old) }
+pub fn take_out(sum: Sum, y: Variable, sets: &mut [u64], coeffs: &mut [u8]) -> Sum
+    requires { Level sets.old coeffs.old × (sum.phase.count ≤ length coeffs.old) }
     ensures { TermsChanged (take_out y) sum.phase.count sum result sets.old coeffs.old sets.new coeffs.new }
 {
     take_out_unmerged(sets, sum.phase.count, y);
@@ -60,14 +59,14 @@ fn turn(c: u8) -> (u8, u8)
     if c == 1 { (1, 6) } else { (7, 2) }
 }
 
-// The variable y taken out of every term, the constant and the term of a turn of c on l added, and the terms merged.
-pub fn turn_out(sum: Sum, y: u32, c: u8, l: Set, sets: &mut [u64], coeffs: &mut [u8]) -> Sum
-    requires { (y < most_variables) × Level sets.old coeffs.old × (sum.phase.count < length coeffs.old) }
-    ensures { TermsChanged (λ s. turned c (set_of l) (take_out y s)) (sum.phase.count + 1) sum result sets.old coeffs.old sets.new coeffs.new }
+// The variable y taken out of every term, the constant and the term of a turn of C on L added, and the terms merged.
+pub fn turn_out(sum: Sum, y: Variable, halves: Halves, sets: &mut [u64], coeffs: &mut [u8]) -> Sum
+    requires { Level sets.old coeffs.old × (sum.phase.count < length coeffs.old) }
+    ensures { TermsChanged (λ s. turned halves.c (set_of halves.l) (take_out y s)) (sum.phase.count + 1) sum result sets.old coeffs.old sets.new coeffs.new }
 {
     take_out_unmerged(sets, sum.phase.count, y);
-    let (constant, coeff) = turn(c);
-    let more = append(sets, coeffs, sum.phase.count, l, coeff);
+    let (constant, coeff) = turn(halves.c);
+    let more = append(sets, coeffs, sum.phase.count, halves.l, coeff);
     Sum {
         live: sum.live.without(y),
         phase: Phase {
@@ -80,14 +79,14 @@ pub fn turn_out(sum: Sum, y: u32, c: u8, l: Set, sets: &mut [u64], coeffs: &mut 
 // The variable y taken out of every term, then z replaced by the parity p in all terms and wires, and the terms merged.
 pub fn join_out(
     sum: Sum,
-    y: u32,
-    z: u32,
+    y: Variable,
+    z: Variable,
     p: Parity,
     wires: &mut Wires,
     sets: &mut [u64],
     coeffs: &mut [u8],
 ) -> Sum
-    requires { (y < most_variables) × (z < most_variables) × Stands sum (lent wires.old sets.old coeffs.old) × Level sets.old coeffs.old }
+    requires { Stands sum (lent wires.old sets.old coeffs.old) × Level sets.old coeffs.old }
     ensures { Changed (λ s. replace z (parity_of p) (take_out y s)) sum.phase.count sum result (lent wires.old sets.old coeffs.old) (lent wires.new sets.new coeffs.new) }
 {
     replace_in_wires(wires, z, p);

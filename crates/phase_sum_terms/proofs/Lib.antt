@@ -1,4 +1,3 @@
--- Laws behind the code of this crate: zeros in words, how many wires there are, and a wire complemented.
+-- Laws behind the code of this crate: zeros in words, and wires as parities.
 pub mod Zeros
-pub mod Lengths
-pub mod Flips
+pub mod WireLists

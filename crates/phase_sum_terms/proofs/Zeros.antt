@@ -1,15 +1,22 @@
 -- Zeros stored from one place up to another, in the words of whole sets.
 -- Assumes nothing.
 use mathlib.Core.Path.{◌≡◌}
-use mathlib.Core.List.{List, ◌++◌}
+use mathlib.Core.List.{List, ◌++◌, append_assoc}
 use Prim.Native.Nat.{ℕ, ◌-◌, ◌*◌, ◌/◌, ◌<◌, ◌≤◌}
 use native.Mathlib.Nat.{mul-sub, mul-div-le, mul-le-mul_left}
 use native.Mathlib.Omega.{arith}
 use lib.ListN.{length, take, drop, replicate, length-append, length-replicate}
 use lib.Seq.{length-take-le}
+use borrow.Rule.Slice.PartMut.{mid_of, put_mid, mid_len, Post-is}
 use Rattle.phase_sum_words.specs.Words.{sets_in}
 use Rattle.phase_sum_words.proofs.Any.{any_width}
 use Rattle.phase_sum_types.proofs.Places.{filled}
+
+-- zeros stored in a part of a list
+pub zeros_put :
+    (a e : ℕ) (xs zeros : List ℕ) → a ≤ e → e ≤ length xs → zeros ≡ replicate (length (mid_of a (e - a) xs)) 0
+    → put_mid a (e - a) xs zeros ≡ filled a e xs
+zeros_put a e xs zeros l h z = rw (z, mid_len a e xs h, Post-is a e xs l, append_assoc)
 
 -- zeros in the words of the sets from place a up to b are empty sets there
 pub sets_filled :

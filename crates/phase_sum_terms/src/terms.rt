@@ -32,6 +32,7 @@ pub fn append(sets: &mut [u64], coeffs: &mut [u8], count: usize, set: Set, coeff
 }
 
 // Zeros in both workspaces from one place up to another.
+// Stays: as `clear` of two parts, each caller has to name the words of the places, and to prove from them what the sets are.
 pub fn zero(sets: &mut [u64], coeffs: &mut [u8], from: usize, to: usize)
     requires { (from ≤ to) × Level sets.old coeffs.old × (to ≤ length coeffs.old) }
     ensures sets { sets_at sets.new ≡ take from (sets_at sets.old) ++ replicate (to - from) 0 ++ drop to (sets_at sets.old) }

@@ -9,7 +9,7 @@ use Rattle.record_format.specs.Gate.{Gate}
 use Rattle.record_format.specs.Reading.{accepted, read}
 use Rattle.record_format.specs.Writing.{gate_part}
 use Rattle.record_format.proofs.Theorems.{accepted_is_sound}
-use Rattle.record_format.proofs.Parts.{gates_of_part, threes_of_part}
+use Rattle.record_format.proofs.Parts.{gates_of_part}
 use Rattle.amplitude.specs.Circuit.{h_gates}
 use Rattle.phase_sum_meaning.specs.Room.{room, most_variables, places}
 use Rattle.phase_sum_types.specs.Unmerged.{Buildable}
@@ -32,8 +32,6 @@ buildable s t n gs hs ss cs e f few sets coeffs =
     let fits : room gs hs ≤ places = room_fits n gs hs sound.few_gates sound'.few_gates sound.some_qubit few in
     record {
       few = sound.few_qubits;
-      threes = threes_of_part s n gs e;
-      threes' = threes_of_part t n hs f;
       within = rw same sound.within;
       within' = rw same' sound'.within;
       variables = rw (same, same') few;

@@ -87,11 +87,6 @@ pub wires-take_out : (y : ℕ) (s : PathSum) → length (take_out y s).wires ≡
 unfolding take_out
 wires-take_out y s = refl
 
--- and in a turn
-pub wires-turned : (k l y : ℕ) (s : PathSum) → length (turned k l (take_out y s)).wires ≡ length s.wires
-unfolding take_out turned
-wires-turned k l y s = refl
-
 -- where a variable is left, the terms leave a place
 pub place_left :
     (s : Sum) (y : ℕ) {l : Lent} →

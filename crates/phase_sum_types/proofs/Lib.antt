@@ -3,6 +3,7 @@
 pub mod Storing
 pub mod Merging
 pub mod TwoWords
+pub mod Chunks
 pub mod Comparing
 pub mod Places
 pub mod Passes

@@ -6,7 +6,7 @@ use mathlib.Core.Path.{◌≡◌, refl, sym, ap, ◌∙◌}
 use mathlib.Core.Logic.{◌⊎◌, inl, inr, ⊎_map}
 use mathlib.Core.Bool.{Bool, true, false, cond, ◌&&◌, ◌||◌, or_assoc, or-false, true≢false}
 use mathlib.Core.List.{List, [], ◌∷◌, ◌++◌, map, map-map, map-append}
-use Prim.Native.Nat.{ℕ, suc, ◌+◌, ◌/◌, ◌%◌, ◌≤◌, ◌<◌}
+use Prim.Native.Nat.{ℕ, ◌+◌, ◌/◌, ◌%◌, ◌≤◌, ◌<◌}
 use native.Mathlib.Nat.{le_refl}
 use native.Mathlib.Numerals.{add-one}
 use native.Mathlib.Omega.{arith}
@@ -19,7 +19,7 @@ use Rattle.phase_sum_meaning.specs.Sets.{◌△◌}
 use Rattle.phase_sum_meaning.specs.Parity.{Parity, of, replace_in}
 use Rattle.phase_sum_meaning.specs.Phase.{Term, term, add_term, add_constant, add_phase, rebuild, in_odd}
 use Rattle.phase_sum_meaning.specs.Stepping.{replace, out_of, coeffs, odd_halves, take_out, turned}
-use Rattle.phase_sum_types.specs.Workspace.{zip_terms, held, zip_wires, sets_of, coeffs_of, over, merged, phase_of, alone}
+use Rattle.phase_sum_types.specs.Workspace.{zip_terms, held, sets_of, coeffs_of, over, merged, phase_of, alone}
 use Rattle.phase_sum_types.specs.Workspace.{Stored, Phased, Rebuilt}
 use Rattle.phase_sum_types.specs.Unmerged.{phase_term}
 use Rattle.phase_sum_types.specs.Inner.{sent_to, odd_both}
@@ -81,13 +81,6 @@ module _ {A : Type 0} where
   pub front_full :
       {old new : List A} (f : A → A) (n : ℕ) → Front n (map f (take n old)) old new → length old ≡ n → new ≡ map f old
   front_full {old} {new} f n p e = rw (sym (take_all n new (omega arith)), p.front, take_all n old (omega arith))
-
--- there are as many wires as sets
-pub length_wires : (ss : List ℕ) (bs : List Bool) → length bs ≡ length ss → length (zip_wires ss bs) ≡ length ss
-unfolding zip_wires
-length_wires [] bs e = refl
-length_wires (s ∷ ss) [] e = absurd (omega arith)
-length_wires (s ∷ ss) (b ∷ bs) e = ap suc (length_wires ss bs (omega arith))
 
 -- two lists after a pass over their first i places that changed each term by g
 pub record Passed (g : Term → Term) (i : ℕ) (ss cs ss' cs' : List ℕ) : Type 0 where

@@ -1,46 +1,24 @@
 -- Laws for putting gates one behind the other: one wire of a sum under construction, one set anew, and the wires that a sum
 -- starts with; terms put behind terms.
 -- Assumes nothing.
-use mathlib.Core.Path.{◌≡◌, refl, sym, ◌∙◌}
-use Prim.Native.Nat.{ℕ, zero, suc, ◌+◌, ◌≤◌, ◌<◌}
-use native.Mathlib.Nat.{le_of_suc-le-suc, zero-add}
+use mathlib.Core.Path.{◌≡◌, sym, ◌∙◌}
+use Prim.Native.Nat.{ℕ, ◌+◌, ◌≤◌, ◌<◌}
+use native.Mathlib.Nat.{zero-add}
 use native.Mathlib.Numerals.{add-one}
 use native.Mathlib.Omega.{arith}
-use mathlib.Core.Bool.{Bool, false}
-use mathlib.Core.List.{List, [], ◌∷◌, ◌++◌, map, map-append}
-use lib.ListN.{length, get_or, set, take, length-append}
+use mathlib.Core.List.{List, ◌++◌, map, map-append}
+use lib.ListN.{length, set, take, length-append}
 use lib.Seq.{take_all, take-suc-set}
 use Rattle.amplitude.proofs.BitLaws.{bit_zero}
 use Rattle.phase_sum_meaning.specs.Sets.{single, from}
 use Rattle.phase_sum_meaning.specs.Parity.{Parity, of}
 use Rattle.phase_sum_meaning.specs.Phase.{Term, Phase as Polynomial}
 use Rattle.phase_sum_meaning.specs.Building.{input, initial}
-use Rattle.phase_sum_types.specs.Workspace.{held, zip_wires, Stored, phase_of, Phased}
+use Rattle.phase_sum_types.specs.Workspace.{held, Stored, phase_of, Phased}
 use Rattle.phase_sum_types.specs.Unmerged.{put_behind}
 use Rattle.phase_sum_types.specs.declared.Phase.{Phase}
 use Rattle.phase_sum_meaning.proofs.VariableLaws.{from_snoc}
 use Rattle.phase_sum_types.proofs.Storing.{stored-held, stored_grown, length-held}
-
--- parities by their sets and constants, with one of each set anew
-pub zip_set :
-    (ss : List ℕ) (bs : List Bool) (q s : ℕ) (b : Bool) →
-    zip_wires (set ss q s) (set bs q b) ≡ set (zip_wires ss bs) q (record { vars = s; flipped = b })
-unfolding zip_wires
-zip_set [] bs q s b = refl
-zip_set (x ∷ ss) [] zero s b = refl
-zip_set (x ∷ ss) [] (suc q) s b = refl
-zip_set (x ∷ ss) (y ∷ bs) zero s b = refl
-zip_set (x ∷ ss) (y ∷ bs) (suc q) s b = rw (zip_set ss bs q s b)
-
--- one of the parities by their sets and constants
-pub zip_at :
-    (ss : List ℕ) (bs : List Bool) (q : ℕ) → q < length ss → q < length bs →
-    ◌≡◌ {A = Parity} (record { vars = get_or ss q 0; flipped = get_or bs q false }) (get_or (zip_wires ss bs) q (of 0))
-unfolding zip_wires
-zip_at [] bs q l k = absurd (omega arith)
-zip_at (x ∷ ss) [] q l k = absurd (omega arith)
-zip_at (x ∷ ss) (y ∷ bs) zero l k = refl
-zip_at (x ∷ ss) (y ∷ bs) (suc q) l k = zip_at ss bs q (le_of_suc-le-suc l) (le_of_suc-le-suc k)
 
 -- the parities of the first q inputs, and one more
 pub inputs_more :

@@ -89,8 +89,6 @@ Builds gs r l l' = Became (build 0 (length l.wires) gs) (places_taken (length l.
 -- the terms
 pub record Buildable (n : ℕ) (first second ss cs : List ℕ) : Type 0 where
   pub few : n ≤ 16
-  pub threes : length first % 3 ≡ 0
-  pub threes' : length second % 3 ≡ 0
   pub within : AllWithin n (gates_in first)
   pub within' : AllWithin n (gates_in second)
   pub variables : n + (h_gates (gates_in first) + h_gates (gates_in second)) ≤ most_variables

@@ -1,7 +1,7 @@
 -- Terms in two lent workspaces: the sets in one, `words_each` words a place, the coefficients in the other, the terms in the first places of
 -- both. Document 01, "Building the sum" and "Report, pick, builder"; document 02, item 6.
 -- Assumes nothing.
-use Rattle.std.specs.Prelude.{◌≡◌, ℕ, ◌+◌, ◌-◌, ◌*◌, ◌/◌, ◌%◌, ◌≤◌, Bool, cond, List, [], ◌∷◌, ◌++◌, map, length, take, drop, replicate, Some, None}
+use Rattle.std.specs.Prelude.{◌≡◌, ℕ, ◌+◌, ◌-◌, ◌*◌, ◌/◌, ◌%◌, ◌≤◌, cond, List, [], ◌∷◌, ◌++◌, map, length, take, drop, replicate, Some, None}
 use Rattle.std.specs.Prelude as code
 use Rattle.std.proofs.Math.Option.{Option, none, some}
 use Rattle.amplitude.specs.Bits.{bit}
@@ -94,12 +94,6 @@ alone φ = record { phase = φ; wires = []; live = [] }
 -- the parity that a set and a constant bit stand for
 abbrev pub parity_of : ParityWord → Parity
 parity_of w = record { vars = set_of w.set; flipped = w.flipped }
-
--- parities by their sets and constants
-unfoldable pub zip_wires : List ℕ → List Bool → List Parity
-zip_wires [] bs = []
-zip_wires (s ∷ ss) [] = []
-zip_wires (s ∷ ss) (b ∷ bs) = record { vars = s; flipped = b } ∷ zip_wires ss bs
 
 -- what a sum is lent: the parities of its wires, one a qubit, and in two slices its terms' sets and coefficients. The sets of a slice are
 -- those that its words hold

@@ -6,9 +6,9 @@ ghost use Rattle.phase_sum_meaning.specs.Sets.{◌△◌, single, parity, first_
 ghost use Rattle.phase_sum_meaning.specs.Stepping.{out_of};
 ghost use Rattle.phase_sum_meaning.specs.Room.{most_variables};
 ghost use Rattle.phase_sum_words.specs.Words.{word_bits};
-ghost use Rattle.phase_sum_types.specs.Workspace.{set_of, members, found_of};
+ghost use Rattle.phase_sum_types.specs.Workspace.{words_of_set, set_of, members, found_of};
 
-use crate::{Set, WORD_BITS};
+use crate::{Set, Variable, WORD_BITS, WORDS_EACH};
 use std::ops::{BitOr, BitXor};
 
 impl Set {
@@ -22,18 +22,17 @@ impl Set {
 
     // The set of one variable.
     #[tactic(auto, unfolding(crate::specs::Workspace::set_of), using(crate::proofs::TwoWords::pair_single_low, crate::proofs::TwoWords::pair_single_high, phase_sum_words::proofs::Word::shifted_one))]
-    pub fn single(v: u32) -> Set
-        requires { v < most_variables }
+    pub fn single(v: Variable) -> Set
         ensures { set_of result ≡ single v }
     {
-        if v < WORD_BITS {
+        if v.number < WORD_BITS {
             return Set {
                 high: 0,
-                low: 1 << v,
+                low: 1 << v.number,
             };
         }
         Set {
-            high: 1 << (v - WORD_BITS),
+            high: 1 << (v.number - WORD_BITS),
             low: 0,
         }
     }
@@ -48,19 +47,17 @@ impl Set {
 
     // Is the variable in the set?
     #[tactic(auto, unfolding(crate::specs::Workspace::set_of), using(crate::proofs::TwoWords::pair_low, crate::proofs::TwoWords::pair_high, phase_sum_words::proofs::Word::shifted_bit))]
-    pub fn holds(self, v: u32) -> bool
-        requires { v < most_variables }
+    pub fn holds(self, v: Variable) -> bool
         ensures { result ≡ bit v (set_of self) }
     {
-        if v < WORD_BITS {
-            return (self.low >> v) % 2 == 1;
+        if v.number < WORD_BITS {
+            return (self.low >> v.number) % 2 == 1;
         }
-        (self.high >> (v - WORD_BITS)) % 2 == 1
+        (self.high >> (v.number - WORD_BITS)) % 2 == 1
     }
 
     // Are both variables in the set?
-    pub fn holds_both(self, i: u32, j: u32) -> bool
-        requires { (i < most_variables) × (j < most_variables) }
+    pub fn holds_both(self, i: Variable, j: Variable) -> bool
         ensures { result ≡ bit i (set_of self) && bit j (set_of self) }
     {
         self.holds(i) && self.holds(j)
@@ -75,8 +72,7 @@ impl Set {
 
     // The set without a variable.
     #[tactic(auto, unfolding(phase_sum_meaning::specs::Stepping::out_of))]
-    pub fn without(self, v: u32) -> Set
-        requires { v < most_variables }
+    pub fn without(self, v: Variable) -> Set
         ensures { set_of result ≡ out_of v (set_of self) }
     {
         if self.holds(v) {
@@ -98,21 +94,21 @@ impl Set {
     }
 
     // The lowest variable of the set.
-    pub fn lowest(self) -> Option<u32>
+    pub fn lowest(self) -> Option<Variable>
         ensures { found_of result ≡ first_in (from 0 most_variables) (set_of self) }
     {
         if self.low != 0 {
-            return Some(self.low.trailing_zeros());
+            return Some(Variable::new(self.low.trailing_zeros()));
         }
         if self.high != 0 {
-            return Some(WORD_BITS + self.high.trailing_zeros());
+            return Some(Variable::new(WORD_BITS + self.high.trailing_zeros()));
         }
         None
     }
 
     // The lowest variable of this set of those left that another set holds.
     #[tactic(auto, unfolding(crate::specs::Workspace::set_of), using(crate::proofs::TwoWords::pair_and, crate::proofs::Choosing::lowest_within))]
-    pub fn lowest_in(self, s: Set) -> Option<u32>
+    pub fn lowest_in(self, s: Set) -> Option<Variable>
         ensures { found_of result ≡ first_in (members (set_of self)) (set_of s) }
     {
         let both = Set {
@@ -123,7 +119,7 @@ impl Set {
     }
 
     // The lowest variable of this set of those left that another set does not hold.
-    pub fn lowest_out(self, s: Set) -> Option<u32>
+    pub fn lowest_out(self, s: Set) -> Option<Variable>
         ensures { found_of result ≡ first_such (λ v. not (bit v (set_of s))) (members (set_of self)) }
     {
         let alone = Set {
@@ -170,5 +166,14 @@ impl BitOr for Set {
             high: self.high | other.high,
             low: self.low | other.low,
         }
+    }
+}
+
+// The set of two words, the low word first.
+impl From<[u64; WORDS_EACH]> for Set {
+    ghost from_gives = { λ words s. words_of_set s ≡ words };
+
+    fn from([low, high]: [u64; WORDS_EACH]) -> Set {
+        Set { high, low }
     }
 }

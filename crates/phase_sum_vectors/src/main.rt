@@ -23,7 +23,7 @@ fn main(rt: HostRuntime) -> io::Result<()> {
     let mut out = BufWriter::new(rt.alloc(), io::writer(&rt))?;
     let mut state = State::new();
     for row in Rows(input.as_slice()) {
-        steps::step(&mut out, &mut state, row)?;
+        steps::step(&mut out, &mut state, &row)?;
     }
     out.flush()
 }

@@ -6,17 +6,15 @@ ghost use Rattle.amplitude.specs.Circuit.{h_gates};
 ghost use Rattle.phase_sum_meaning.specs.Room.{most_variables};
 
 use crate::print;
-use crate::state::{QUBITS, State, WIRE_WORDS};
+use crate::state::State;
+use comparison_checking::MOST_VARIABLES;
 use gate_counting::h_gates;
 use phase_sum_terms::wires::Wires;
-use phase_sum_types::WORDS_EACH;
+use phase_sum_types::Parity;
 use record_format::HEAD_SIZE;
-use record_reading::{check, gates};
+use record_reading::{MOST_QUBITS, check, gates};
 use std::io;
 use std::io::Write;
-
-// The variables that a pair may have.
-const MOST_VARIABLES: usize = 128;
 
 // The qubits of the record at the start of the bytes, if there is one.
 fn qubits(s: &[u8]) -> Option<usize>
@@ -45,16 +43,15 @@ fn build_accepted(
 {
     let one = gates(first);
     let two = gates(second);
-    if n > QUBITS || !few_variables(n, one, two) {
+    if n > MOST_QUBITS || !few_variables(n, one, two) {
         return Ok(());
     }
-    let mut wire_sets = [0; WIRE_WORDS];
-    let mut flips = [false; QUBITS];
-    let mut wires = Wires::new(&mut wire_sets[..WORDS_EACH * n], &mut flips[..n]);
+    let mut parities = [Parity::default(); MOST_QUBITS];
+    let mut wires = Wires::new(&mut parities[..n]);
     let sum = phase_sum_building::build(one, two, &mut wires, &mut state.sets, &mut state.coeffs);
-    state.wire_sets = wire_sets;
-    state.flips = flips;
-    state.phase = sum.phase;
+    state.wires = parities;
+    state.set_phase(sum.phase);
+    // Stays: `as`, since no `From` goes from `usize` to a number of bits; `try_from` gives a case that never comes.
     let next = n as u64 + u64::from(sum.live.count());
     write!(out, "{next} ")?;
     print::state(out, state)

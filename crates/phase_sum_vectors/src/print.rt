@@ -1,18 +1,39 @@
-// Numbers in decimal, to a writer, a space behind each, and line ends. A set is its two words, the low one first.
+// Numbers in decimal, to a writer, a space behind each, and line ends.
 use crate::state::State;
-use phase_sum_types::Set;
-use std::io;
+use phase_sum_types::{Set, Variable};
 use std::io::Write;
+use std::{fmt, io};
 
-// A set as its words, each with a space.
-pub(crate) fn set(out: &mut impl Write, s: Set) -> io::Result<()> {
-    write!(out, "{} {} ", s.low, s.high)
+// A set as its two words, the low one first.
+#[derive(Clone, Copy)]
+pub(crate) struct Words(pub Set);
+
+impl fmt::Display for Words {
+    fn fmt<W: fmt::Write>(&self, f: &mut fmt::Formatter<W>) -> fmt::Result {
+        let Set { low, high } = self.0;
+        write!(f, "{low} {high}")
+    }
 }
 
-// 1 or 0.
-pub(crate) fn bit(out: &mut impl Write, b: bool) -> io::Result<()> {
-    let bit = u8::from(b);
-    write!(out, "{bit} ")
+// Yes as 1, no as 0.
+#[derive(Clone, Copy)]
+pub(crate) struct Bit(pub bool);
+
+impl fmt::Display for Bit {
+    fn fmt<W: fmt::Write>(&self, f: &mut fmt::Formatter<W>) -> fmt::Result {
+        f.write_str(if self.0 { "1" } else { "0" })
+    }
+}
+
+// A variable that was found, or 128.
+#[derive(Clone, Copy)]
+pub(crate) struct Found(pub Option<Variable>);
+
+impl fmt::Display for Found {
+    fn fmt<W: fmt::Write>(&self, f: &mut fmt::Formatter<W>) -> fmt::Result {
+        let number = self.0.map_or(128, Variable::number);
+        write!(f, "{number}")
+    }
 }
 
 // The constant and the terms, each set and its coefficient.
@@ -28,10 +49,10 @@ fn phase(out: &mut impl Write, state: &State) -> io::Result<()> {
 
 // The wires, each set and its constant.
 fn wires(out: &mut impl Write, state: &State) -> io::Result<()> {
-    let (sets, _) = state.wire_sets.as_chunks::<2>();
-    for ([low, high], flip) in sets.iter().zip(state.flips.iter()) {
-        write!(out, "{low} {high} ")?;
-        bit(out, *flip)?;
+    for wire in state.wires.iter() {
+        let set = Words(wire.set);
+        let flip = Bit(wire.flipped);
+        write!(out, "{set} {flip} ")?;
     }
     out.write_all(b"\n")
 }

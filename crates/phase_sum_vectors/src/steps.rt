@@ -1,32 +1,34 @@
 // What each row does: one function of the phase-sum layer, on the state that earlier rows left.
-ghost use Rattle.std.specs.Prelude.{◌≡◌, ◌≤◌};
+ghost use Rattle.std.specs.Prelude.{◌≡◌};
 
-use crate::row::{Function, Row};
-use crate::state::{PLACES, State};
+use crate::print::{Bit, Words};
+use crate::row::{Change, Function, Question, Row, Terms};
+use crate::state::State;
 use crate::{operations, pair, print};
+use comparison_checking::PLACES;
 use phase_sum_reading::{halves_of, odd_both_in, odd_mask};
 use phase_sum_sets::store;
 use phase_sum_terms::reading::PhaseTerms;
 use phase_sum_terms::terms;
 use phase_sum_terms::wires::Wires;
-use phase_sum_types::{Parity, Phase, Set, Sum};
+use phase_sum_types::{Parity, Phase, Set, Sum, Variable};
 use std::io;
 use std::io::Write;
 
-// The row's terms in the first places.
-fn load(state: &mut State, row: Row<'_>) {
-    for i in 0..row.count {
-        let place = usize::from(i);
+// A row's terms in the first places, as far as there are places.
+fn load(state: &mut State, constant: u8, terms: Terms<'_>) {
+    // Stays: the place and its test; of `(0..PLACES).zip(terms)` it was not proved that `store` may be called, and three iterators zipped over both
+    // workspaces are not covered by the borrow checker.
+    for (place, (set, coeff)) in terms.enumerate() {
         if place < PLACES {
-            let (set, coeff) = row.term(i);
             store(&mut state.sets, place, set);
             state.coeffs[place] = coeff;
         }
     }
-    state.phase = Phase {
-        constant: row.constant,
-        count: usize::from(row.count),
-    };
+    state.set_phase(Phase {
+        constant,
+        count: usize::from(terms.count),
+    });
 }
 
 // A sum of the phase, with no variables left.
@@ -39,23 +41,25 @@ fn sum_of(phase: Phase) -> Sum
     }
 }
 
+// The terms in canonical form.
+fn canonical(state: &mut State) {
+    let phase = state.phase;
+    let count = phase_sum_merging::canonical(&mut state.sets, &mut state.coeffs, phase.count);
+    state.set_phase(Phase { count, ..phase });
+}
+
 // A variable taken out.
-fn take_out(state: &mut State, v: u32)
-    requires count { state.old.phase.count ≤ PLACES }
-    requires variable { v ≤ 127 }
-{
+fn take_out(state: &mut State, v: Variable) {
     let sum = sum_of(state.phase);
     let sum = phase_sum_stepping::take_out(sum, v, &mut state.sets, &mut state.coeffs);
-    state.phase = sum.phase;
+    state.set_phase(sum.phase);
 }
 
 // A variable replaced, in the terms and the wires.
-fn replace(state: &mut State, z: u32, p: Parity)
-    requires count { state.old.phase.count ≤ PLACES }
-    requires variable { z ≤ 127 }
-{
+#[tactic(auto, using(phase_sum_types::proofs::TwoWords::level_places))]
+fn replace(state: &mut State, z: Variable, p: Parity) {
     let sum = sum_of(state.phase);
-    let mut wires = Wires::new(&mut state.wire_sets, &mut state.flips);
+    let mut wires = Wires::new(&mut state.wires);
     let sum = phase_sum_stepping::replace(
         sum,
         z,
@@ -64,49 +68,33 @@ fn replace(state: &mut State, z: u32, p: Parity)
         &mut state.sets,
         &mut state.coeffs,
     );
-    state.phase = sum.phase;
+    state.set_phase(sum.phase);
 }
 
 // A term more, where there is a place for it.
 fn append(state: &mut State, set: Set, coeff: u8) {
     if state.phase.count < PLACES {
-        let count = state.phase.count;
-        state.phase.count = terms::append(&mut state.sets, &mut state.coeffs, count, set, coeff);
+        let phase = state.phase;
+        let count = terms::append(&mut state.sets, &mut state.coeffs, phase.count, set, coeff);
+        state.set_phase(Phase { count, ..phase });
     }
 }
 
+// The terms to 0, and none left.
+fn clear(state: &mut State) {
+    terms::zero(&mut state.sets, &mut state.coeffs, 0, state.phase.count);
+    state.phase = Phase::default();
+}
+
 // What a row changes.
-fn change(state: &mut State, row: Row<'_>)
-    requires { state.old.phase.count ≤ PLACES }
-{
-    let count = state.phase.count;
-    let v = u32::from(row.variable % 128);
-    match row.function {
-        Some(Function::Load) => load(state, row),
-        Some(Function::Canonical) => {
-            state.phase.count = phase_sum_merging::canonical(
-                &mut state.sets,
-                &mut state.coeffs,
-                count,
-            );
-        }
-        Some(Function::Replace) => {
-            let p = Parity {
-                set: row.set,
-                flipped: row.flipped,
-            };
-            replace(state, v, p);
-        }
-        Some(Function::TakeOut) => take_out(state, v),
-        Some(Function::Clear) => {
-            terms::zero(&mut state.sets, &mut state.coeffs, 0, count);
-            state.phase = Phase {
-                constant: 0,
-                count: 0,
-            };
-        }
-        Some(Function::Append) => append(state, row.set, row.constant),
-        _ => {}
+fn apply(state: &mut State, change: &Change<'_>) {
+    match *change {
+        Change::Load { constant, terms } => load(state, constant, terms),
+        Change::Canonical => canonical(state),
+        Change::Replace { variable, parity } => replace(state, variable, parity),
+        Change::TakeOut { variable } => take_out(state, variable),
+        Change::Clear => clear(state),
+        Change::Append { set, coeff } => append(state, set, coeff),
     }
 }
 
@@ -120,46 +108,40 @@ fn first_set(state: &State) -> Set {
 }
 
 // What a row asks for.
-fn ask(out: &mut impl Write, state: &State, row: Row<'_>) -> io::Result<()>
-    requires { state.now.phase.count ≤ PLACES }
-{
+fn answer(out: &mut impl Write, state: &State, question: &Question) -> io::Result<()> {
     let terms = PhaseTerms::new(&state.sets, &state.coeffs, state.phase);
-    let v = u32::from(row.variable % 128);
-    match row.function {
-        Some(Function::OddMask) => print::set(out, odd_mask(&terms)),
-        Some(Function::Halves) => {
-            let halves = halves_of(&terms, v);
-            write!(out, "{} ", halves.c)?;
-            print::set(out, halves.l)
+    match *question {
+        Question::OddMask => write!(out, "{} ", Words(odd_mask(&terms))),
+        Question::Halves { variable } => {
+            let halves = halves_of(&terms, variable);
+            write!(out, "{} {} ", halves.c, Words(halves.l))
         }
-        Some(Function::PhaseAt) => {
-            let value = terms.at(row.set.low);
+        Question::PhaseAt { bits } => {
+            let value = terms.at(bits);
             write!(out, "{value} ")
         }
-        Some(Function::Parity) => print::bit(out, row.set.parity(1 << (row.variable % 64))),
-        Some(Function::OddBoth) => {
-            let w = u32::from(row.constant % 128);
-            print::set(out, odd_both_in(odd_mask(&terms), &terms, v, w))
+        Question::Parity { set, bit } => write!(out, "{} ", Bit(set.parity(1 << (bit % 64)))),
+        Question::OddBoth { one, other } => {
+            let odd = odd_both_in(odd_mask(&terms), &terms, one, other);
+            write!(out, "{} ", Words(odd))
         }
-        Some(Function::OneSet) => operations::of_one(out, row),
-        Some(Function::TwoSets) => operations::of_two(out, row.set, first_set(state)),
-        _ => Ok(()),
+        Question::OneSet { set, one, other } => operations::of_one(out, set, one, other),
+        Question::TwoSets { set } => operations::of_two(out, set, first_set(state)),
     }
 }
 
 // One row, and the lines for it: what it asks for, and the state afterwards.
-pub(crate) fn step(out: &mut impl Write, state: &mut State, row: Row<'_>) -> io::Result<()> {
-    if row.function == Some(Function::Build) {
-        return pair::build(out, state, row.body);
-    }
-    if state.phase.count <= PLACES {
-        change(state, row);
+pub(crate) fn step(out: &mut impl Write, state: &mut State, row: &Row<'_>) -> io::Result<()> {
+    match &row.function {
+        Some(Function::Build { count: _, records }) => return pair::build(out, state, *records),
+        Some(Function::Change(change)) if !state.overfull => apply(state, change),
+        Some(Function::Ask(question)) if !state.overfull && !row.quiet => answer(
+            out, state, question,
+        )?,
+        _ => {}
     }
     if row.quiet {
         return Ok(());
-    }
-    if state.phase.count <= PLACES {
-        ask(out, state, row)?;
     }
     print::state(out, state)
 }

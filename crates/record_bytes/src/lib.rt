@@ -22,14 +22,19 @@ pub fn check_gate(n: usize, gate: usize, bytes: [u8; 3]) -> Result<(), Refusal>
     ensures { gate_fault result ≡ first (gate_rows n gate (raw_of_three bytes)) }
 {
     let [kind, a, b] = bytes;
+    if kind <= LAST_ONE_QUBIT {
+        if b != NO_QUBIT {
+            return Err(Refusal::SpareByte { gate });
+        }
+        if n <= usize::from(a) {
+            return Err(Refusal::QubitRange { gate });
+        }
+        return Ok(());
+    }
     if kind > LAST_KIND {
         return Err(Refusal::UnknownKind { gate });
     }
-    let on_one = kind <= LAST_ONE_QUBIT;
-    if on_one && b != NO_QUBIT {
-        return Err(Refusal::SpareByte { gate });
-    }
-    if n <= a as usize || (!on_one && (n <= b as usize || a == b)) {
+    if n <= usize::from(a) || n <= usize::from(b) || a == b {
         return Err(Refusal::QubitRange { gate });
     }
     Ok(())

@@ -1,5 +1,7 @@
 // Calls that read records and reports.
-use calls_lists::{bytes_of, refusals};
+use calls_lists::bytes_of;
+use calls_lists::refusals::OfList;
+use calls_lists::reports::BehindVerdict;
 use calls_text::error::RowError;
 use calls_text::hex::Hex;
 use calls_text::numbers::numbers;
@@ -12,7 +14,7 @@ pub(crate) fn check(alloc: Global, out: &mut impl Write, text: &str) -> Result<(
     let record = bytes_of(alloc, text)?;
     match records::check(record.as_slice()) {
         Ok(Head { n, g }) => write!(out, "accepted {n} {g}")?,
-        Err(r) => refusals::show(out, r)?,
+        Err(r) => write!(out, "{}", OfList(r))?,
     }
     Ok(())
 }
@@ -29,15 +31,8 @@ pub(crate) fn gates(alloc: Global, out: &mut impl Write, text: &str) -> Result<(
 pub(crate) fn read_report(alloc: Global, out: &mut impl Write, text: &str) -> Result<(), RowError> {
     let report = bytes_of(alloc, text)?;
     match records::read_report(report.as_slice()) {
-        Ok(r) => {
-            write!(out, "fields {} {} {}", r.verdict, r.first, r.second)?;
-            write!(
-                out,
-                " {} {} {} {} {}",
-                r.pins, r.sums, r.turns, r.joins, r.left
-            )?;
-        }
-        Err(r) => refusals::show(out, r)?,
+        Ok(report) => write!(out, "fields {} {}", report.verdict, BehindVerdict(report))?,
+        Err(r) => write!(out, "{}", OfList(r))?,
     }
     Ok(())
 }
@@ -48,7 +43,7 @@ pub(crate) fn check_gate(out: &mut impl Write, text: &str) -> Result<(), RowErro
     let gate = [u8::try_from(kind)?, u8::try_from(a)?, u8::try_from(b)?];
     match record_bytes::check_gate(n, index, gate) {
         Ok(()) => out.write_all(b"good")?,
-        Err(r) => refusals::show(out, r)?,
+        Err(r) => write!(out, "{}", OfList(r))?,
     }
     Ok(())
 }

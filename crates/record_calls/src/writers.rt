@@ -1,5 +1,6 @@
 // Calls that write. The first number says how many bytes of the buffer are lent; the whole buffer is printed afterwards.
-use calls_lists::{bytes_of, refusals};
+use calls_lists::bytes_of;
+use calls_lists::refusals::OfList;
 use calls_text::error::RowError;
 use calls_text::hex::Hex;
 use calls_text::numbers::numbers;
@@ -21,7 +22,7 @@ fn write<F: FnOnce(&mut [u8]) -> Result<usize, Refusal>>(
     let lent = buffer.as_mut_slice().get_mut(..size).ok_or(RowError::Bad)?;
     match writer(lent) {
         Ok(length) => write!(out, "length {length}")?,
-        Err(r) => refusals::show(out, r)?,
+        Err(r) => write!(out, "{}", OfList(r))?,
     }
     let after = Hex(buffer.as_slice());
     write!(out, " {after}")?;

@@ -3,23 +3,13 @@
 use mathlib.Core.Path.{◌≡◌}
 use Prim.Native.Nat.{ℕ, ◌%◌}
 use native.Mathlib.Omega.{arith}
-use mathlib.Core.List.{List, [], ◌∷◌}
+use mathlib.Core.List.{List}
 use lib.ListN.{length, length-take, length-drop}
 use Rattle.record_format.specs.Gate.{Gate}
-use Rattle.record_format.specs.Reading.{Reading, gates_in, accepted, refused, read}
-use Rattle.record_format.specs.Answer.{gives}
-use Rattle.record_format.specs.Writing.{check_answer, gate_part}
+use Rattle.record_format.specs.Reading.{gates_in, accepted, read}
+use Rattle.record_format.specs.Writing.{gate_part}
 use Rattle.record_format.proofs.Encoding.{good_head}
 use Rattle.record_format.proofs.Theorems.{passed}
-
--- a record that check answers with n and g is accepted on n qubits
-pub accepted_by_check :
-    (s : List ℕ) (n g : ℕ) → gives (n ∷ g ∷ []) ≡ check_answer (read s) → (gs : List Gate) × (read s ≡ accepted n gs)
-accepted_by_check s n g = go (read s)
-  where
-    go : (r : Reading) → gives (n ∷ g ∷ []) ≡ check_answer r → (gs : List Gate) × (r ≡ accepted n gs)
-    go (accepted m gs) e = (gs, cc)
-    go (refused f) e = let z : ◌≡◌ {A = ℕ} 0 1 = cc in absurd (omega arith)
 
 -- the gates that a record's gate part stands for are those that reading it found
 pub gates_of_part : (s : List ℕ) (n : ℕ) (gs : List Gate) → read s ≡ accepted n gs → gates_in (gate_part s (read s)) ≡ gs

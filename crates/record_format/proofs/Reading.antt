@@ -12,14 +12,14 @@ use borrow.Author.Tests.{ltb-false}
 use Rattle.record_format.specs.Gate.{Raw, raw, raw_of_three}
 use Rattle.record_format.specs.Row.{Fault, fault_at, Row, first}
 use Rattle.record_format.specs.Reading.{qubits, count, size, body, raws, raw_at, gates, head_rows, gate_rows, all_gate_rows, record_rows, accepted, unless, read}
+use Rattle.record_format.specs.Chunks.{raws_of}
 use Rattle.record_format.specs.Answer.{gives, refuses}
 use Rattle.record_format.specs.Writing.{fault_or, check_answer}
 use Rattle.record_format.specs.Inner.{head_answer}
 use Rattle.record_format.proofs.Rows.{none_holds, first_none, first_some, AllFaults, all_both}
 use Rattle.record_format.proofs.Encoding.{GoodHead, good_head, length_gates}
 use Rattle.record_format.proofs.Storing.{three_at}
-use Rattle.record_format.proofs.Chunks.{raws_of}
-use Rattle.std.proofs.lemmas.List.{at_drop_more}
+use Rattle.std.proofs.lemmas.List.{at_drop_more, at_drop_all}
 
 -- what all faults of one gate are, those of several gates are
 pub gates_all :
@@ -75,6 +75,11 @@ stop_bad s n g i f h whole bad =
 -- the rows of gates in chunks of three bytes, from the one at index i on
 abbrev pub chunk_rows : ℕ → List (List ℕ) → ℕ → List (Row Fault)
 chunk_rows n chunks i = all_gate_rows n i (raws_of (drop i chunks))
+
+-- behind the last gate there are none
+pub chunk_rows_end : (n : ℕ) (chunks : List (List ℕ)) (i : ℕ) → length chunks ≤ i → first (chunk_rows n chunks i) ≡ none
+unfolding first all_gate_rows
+chunk_rows_end n chunks i h = at_drop_all (λ cs. first (all_gate_rows n i (raws_of cs))) chunks i h
 
 module _ (n : ℕ) (chunks : List (List ℕ)) (i : ℕ) (h : i < length chunks) where
   -- those of the gate at index i come first
@@ -143,6 +148,11 @@ check_decides s n g o h found =
         → fault_or f (gives (qubits s ∷ count s ∷ [])) ≡ check_answer (unless f (accepted (qubits s) (gates s)))
     go whole none = ap (λ (k : ℕ). gives (qubits s ∷ k ∷ [])) (sym (length_gates s whole))
     go whole (some f) = refl
+
+-- so a bad gate refuses the record
+pub gates_refuse : (s : List ℕ) (n g : ℕ) (f : Fault) → gives (n ∷ g ∷ []) ≡ head_answer s
+    → some f ≡ first (all_gate_rows n 0 (raws (take (3 * g) (drop 5 s)))) → refuses f ≡ check_answer (read s)
+gates_refuse s n g f h found = check_decides s n g (some f) h found
 
 -- an accepted record: no row stops it, its head is good, and n and g are its own
 pub record Accepts (s : List ℕ) (n g : ℕ) : Type 0 where

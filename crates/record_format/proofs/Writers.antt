@@ -14,13 +14,15 @@ use lib.Dec.{ltb, eqb}
 use borrow.Author.Tests.{lt-ltb, le-ltb, eq-eqb, ne_eqb}
 use Rattle.record_format.specs.Gate.{Gate, Raw, gate_bytes, body_bytes, inverse_list}
 use Rattle.record_format.specs.Row.{Fault, fault, Row, row, first}
-use Rattle.record_format.specs.Reading.{size, qubits, count, gates, gates_in, gate_rows, record_rows, read}
+use Rattle.record_format.specs.Reading.{size, qubits, count, gates, raws, gate_rows, record_rows, read}
+use Rattle.record_format.specs.Chunks.{raws_of, gates_of}
 use Rattle.record_format.specs.Answer.{gives, refuses}
 use Rattle.record_format.specs.Writing.{Outcome, head_bytes, encode, check_answer, write, add, inverse}
 use Rattle.record_format.specs.Inner.{appended}
 use Rattle.record_format.proofs.Rows.{first_none, first_some}
 use Rattle.record_format.proofs.Encoding.{length-gate, length-body, length_gates, length-encode, encode-appended, encode-inverse}
 use Rattle.record_format.proofs.Storing.{behind_head, with_left, piece_stored}
+use Rattle.record_format.proofs.Chunks.{gates_of_raws}
 use Rattle.record_format.proofs.Reading.{Accepts, refuses_by}
 
 -- a gate's bytes stored are the first of those of a list
@@ -128,13 +130,14 @@ unfolding inverse
 inverse_short s l n g read-s short = write_on _ _ l read-s.good ∙ write_short _ l (size g) (length-inverse s n g read-s) short
 
 -- a head and then the inverted gates behind it are what inverting writes
-pub inverse_stored : (s l : List ℕ) (n g : ℕ) (m bytes : List ℕ) → Accepts s n g → size g ≤ length l → m ≡ head_bytes n g ++ drop 5 l
-    → bytes ≡ take (3 * g) (drop 5 s)
+pub inverse_stored : (s l : List ℕ) (n g : ℕ) (m : List ℕ) (chunks : List (List ℕ)) → Accepts s n g → size g ≤ length l
+    → m ≡ head_bytes n g ++ drop 5 l
+    → raws_of chunks ≡ raws (take (3 * g) (drop 5 s))
+    → length chunks ≡ g
     → inverse s l
-    ≡ record { answer = gives (size g ∷ []); buffer = take 5 m ++ body_bytes (inverse_list (gates_in bytes)) ++ drop (5 + length bytes) m }
+    ≡ record { answer = gives (size g ∷ []); buffer = take 5 m ++ body_bytes (inverse_list (gates_of chunks)) ++ drop (size (length chunks)) m }
 unfolding inverse
-inverse_stored s l n g m bytes read-s fits e part =
-    let long : length bytes ≡ 3 * g = rw part (simp (length-take, length-drop) (omega (arith, read-s.head.whole, read-s.g_is))) in
+inverse_stored s l n g m chunks read-s fits e part many =
     write_on _ _ l read-s.good
     ∙ write_fits _ l (size g) (length-inverse s n g read-s) fits
-    ∙ rw (long, e, behind_head (head_bytes n g) l (3 * g), encode-inverse s read-s.good, part, read-s.n_is, read-s.g_is)
+    ∙ rw (many, e, behind_head (head_bytes n g) l (3 * g), encode-inverse s read-s.good, gates_of_raws chunks _ part, read-s.n_is, read-s.g_is)

@@ -7,6 +7,7 @@ pub mod Gate
 pub mod Typed
 pub mod Row
 pub mod Reading
+pub mod Chunks
 pub mod Answer
 pub mod Writing
 pub mod Report

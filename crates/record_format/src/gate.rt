@@ -1,5 +1,6 @@
 // Gates in their typed form, and as a record's three bytes: kind, a, b.
-ghost use Rattle.std.specs.Prelude.{◌≡◌};
+ghost use Rattle.std.specs.Prelude.{◌≡◌, ◌<◌, MatchResult};
+ghost use Rattle.record_format.specs.Format.{last_one_qubit};
 ghost use Rattle.record_format.specs.Gate.{gate_bytes, gate_of_three, inverse_gate, inverse_kind, one_qubit_kind, two_qubit_kind};
 ghost use Rattle.record_format.specs.Typed.{one_in, two_in, gate_in};
 
@@ -52,57 +53,50 @@ impl From<TwoQubit> for u8 {
     }
 }
 
-// The gate that a record's three bytes stand for.
+// The gate on one qubit of a number, or the number itself where it is above 7.
+impl TryFrom<u8> for OneQubit {
+    type Error = u8;
+
+    ghost try_from_gives = { λ k told. MatchResult told (λ kind. k ≡ one_qubit_kind (one_in kind)) (λ number. (last_one_qubit < k) × (number ≡ k)) };
+
+    #[tactic(auto, unfolding(crate::specs::Gate::one_qubit_kind))]
+    fn try_from(k: u8) -> Result<OneQubit, u8> {
+        match k {
+            0 => Ok(OneQubit::X),
+            1 => Ok(OneQubit::Y),
+            2 => Ok(OneQubit::Z),
+            3 => Ok(OneQubit::S),
+            4 => Ok(OneQubit::SInverse),
+            5 => Ok(OneQubit::T),
+            6 => Ok(OneQubit::TInverse),
+            7 => Ok(OneQubit::H),
+            _ => Err(k),
+        }
+    }
+}
+
+// The gate that a record's three bytes stand for. The conversion can not fail, so that a kind above 10 is read as 10: the check of a record
+// refuses it before any gate is decoded.
+// Stays: the numbers of two-qubit gates stand here alone; a conversion of `TwoQubit` would be the same three arms.
 impl From<[u8; 3]> for Gate {
     ghost from_gives = { λ bytes gate. gate_in gate ≡ gate_of_three bytes };
 
-    #[tactic(auto, unfolding(crate::specs::Gate::gate_of))]
+    #[tactic(auto, unfolding(crate::specs::Gate::gate_of, crate::specs::Gate::one_qubit_kind))]
     fn from(bytes: [u8; 3]) -> Gate {
         let [kind, a, b] = bytes;
-        match kind {
-            0 => Gate::One {
-                kind: OneQubit::X,
-                q: a,
-            },
-            1 => Gate::One {
-                kind: OneQubit::Y,
-                q: a,
-            },
-            2 => Gate::One {
-                kind: OneQubit::Z,
-                q: a,
-            },
-            3 => Gate::One {
-                kind: OneQubit::S,
-                q: a,
-            },
-            4 => Gate::One {
-                kind: OneQubit::SInverse,
-                q: a,
-            },
-            5 => Gate::One {
-                kind: OneQubit::T,
-                q: a,
-            },
-            6 => Gate::One {
-                kind: OneQubit::TInverse,
-                q: a,
-            },
-            7 => Gate::One {
-                kind: OneQubit::H,
-                q: a,
-            },
-            8 => Gate::Two {
+        match OneQubit::try_from(kind) {
+            Ok(kind) => Gate::One { kind, q: a },
+            Err(8) => Gate::Two {
                 kind: TwoQubit::Cx,
                 a,
                 b,
             },
-            9 => Gate::Two {
+            Err(9) => Gate::Two {
                 kind: TwoQubit::Cz,
                 a,
                 b,
             },
-            _ => Gate::Two {
+            Err(_) => Gate::Two {
                 kind: TwoQubit::Swap,
                 a,
                 b,

@@ -12,6 +12,7 @@ ghost use Rattle.record_format.specs.Answer.{number_of};
 pub const HEAD_SIZE: usize = 5;
 
 // The bytes of a gate: kind, a, b.
+// Stays: a record's size, HEAD_SIZE + GATE_SIZE * g, is written out where it is asked: one sum, of g that stands in a head, a slice's length or a constant.
 pub const GATE_SIZE: usize = 3;
 
 // Why a call is turned down. specs/Answer.antt gives each case the table's number and the index of its gate.

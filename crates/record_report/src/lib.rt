@@ -51,24 +51,37 @@ pub fn write_report(buffer: &mut [u8], report: Report) -> Result<usize, Refusal>
 pub fn read_report(s: &[u8]) -> Result<Report, Refusal>
     ensures { report_answer result ≡ read_report s.now }
 {
-    if s.len() < REPORT_SIZE {
+    let Some(bytes) = s.first_chunk::<REPORT_SIZE>() else {
         return Err(Refusal::Short);
-    }
+    };
     if !s.starts_with(&REPORT_MARK) {
         return Err(Refusal::WrongMark);
     }
-    let verdict = s[2];
+    let [
+        _,
+        _,
+        verdict,
+        first_low,
+        first_high,
+        second_low,
+        second_high,
+        pins,
+        sums,
+        turns,
+        joins,
+        left,
+    ] = *bytes;
     if verdict > LAST_VERDICT {
         return Err(Refusal::UnknownVerdict);
     }
     Ok(Report {
         verdict,
-        first: u16::from_le_bytes([s[3], s[4]]),
-        second: u16::from_le_bytes([s[5], s[6]]),
-        pins: s[7],
-        sums: s[8],
-        turns: s[9],
-        joins: s[10],
-        left: s[11],
+        first: u16::from_le_bytes([first_low, first_high]),
+        second: u16::from_le_bytes([second_low, second_high]),
+        pins,
+        sums,
+        turns,
+        joins,
+        left,
     })
 }

@@ -27,6 +27,7 @@ pub fn start(buffer: &mut [u8], n: usize) -> Result<usize, Refusal>
 
 // One gate at the end of the record that stands in the buffer: the record's own fault, 4, the new gate's 5, 7, 6 with g for its index, then 11.
 // Stays: kind, a and b come as bytes, since the call refuses a kind above 10 by number and a typed gate could not hold one.
+#[tactic(auto, using(record_format::proofs::Reading::accepts, record_format::proofs::Writers::add_unread, record_format::proofs::Writers::add_full))]
 pub fn add(buffer: &mut [u8], kind: u8, a: u8, b: u8) -> Result<usize, Refusal>
     ensures answers { written_answer result ≡ (add (raw kind a b) buffer.old).answer }
     ensures leaves { buffer.new ≡ (add (raw kind a b) buffer.old).buffer }

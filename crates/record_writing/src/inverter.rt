@@ -1,28 +1,30 @@
 // The inverse of a record, written into a second buffer.
-ghost use Rattle.std.specs.Prelude.{◌≡◌, ◌+◌, ◌%◌, ◌≤◌, ◌++◌, length, take, drop};
+ghost use Rattle.std.specs.Prelude.{◌≡◌, ◌≤◌, ◌++◌, length, take, drop};
 ghost use Rattle.record_format.specs.Format.{head_size};
 ghost use Rattle.record_format.specs.Gate.{body_bytes, inverse_list};
-ghost use Rattle.record_format.specs.Reading.{gates_in};
+ghost use Rattle.record_format.specs.Reading.{size};
+ghost use Rattle.record_format.specs.Chunks.{gates_of};
 ghost use Rattle.record_format.specs.Writing.{inverse};
 ghost use Rattle.record_format.specs.Answer.{written_answer};
 
 use crate::{write_gate, write_head};
 use record_format::gate::Gate;
 use record_format::{GATE_SIZE, HEAD_SIZE, Head, Refusal};
-use record_reading::{check, gate_bytes};
+use record_reading::{check, whole_gates};
 
 // The gates, backwards and each inverted, behind the head in the buffer.
-fn write_inverse(gates: &[u8], buffer: &mut [u8])
-    requires { (length gates.now % 3 ≡ 0) × (head_size + length gates.now ≤ length buffer.old) }
-    ensures { buffer.new ≡ take head_size buffer.old ++ body_bytes (inverse_list (gates_in gates.now)) ++ drop (head_size + length gates.now) buffer.old }
+fn write_inverse(gates: &[[u8; 3]], buffer: &mut [u8])
+    requires { size (length gates.now) ≤ length buffer.old }
+    ensures { buffer.new ≡ take head_size buffer.old ++ body_bytes (inverse_list (gates_of gates.now)) ++ drop (size (length gates.now)) buffer.old }
 {
-    for (i, bytes) in gates.as_chunks::<3>().0.iter().rev().enumerate() {
+    for (i, bytes) in gates.iter().rev().enumerate() {
         let gate = Gate::from(*bytes);
         write_gate(buffer, HEAD_SIZE + GATE_SIZE * i, gate.inverse().into());
     }
 }
 
 // The inverse of the record at the start of s, at the front of the buffer: the record's own fault, then 11.
+#[tactic(auto, using(record_format::proofs::Reading::accepts, record_format::proofs::Writers::inverse_unread, record_format::proofs::Writers::inverse_short, record_format::proofs::Writers::inverse_stored))]
 pub fn inverse(s: &[u8], buffer: &mut [u8]) -> Result<usize, Refusal>
     ensures answers { written_answer result ≡ (inverse s.now buffer.old).answer }
     ensures leaves { buffer.new ≡ (inverse s.now buffer.old).buffer }
@@ -33,6 +35,6 @@ pub fn inverse(s: &[u8], buffer: &mut [u8]) -> Result<usize, Refusal>
         return Err(Refusal::BufferShort);
     }
     write_head(buffer, n as u8, g as u16);
-    write_inverse(gate_bytes(s, g), buffer);
+    write_inverse(whole_gates(s, g), buffer);
     Ok(size)
 }

@@ -25,6 +25,7 @@ pub fn write_head(buffer: &mut [u8], n: u8, g: u16)
 }
 
 // A gate's three bytes at a place of a buffer.
+// Stays: a place beside the buffer, since the callers' clauses are about the whole of it; parts by `split_at_mut` would be joined again in each.
 pub fn write_gate(buffer: &mut [u8], at: usize, bytes: [u8; 3])
     requires { at + gate_size ≤ length buffer.old }
     ensures { buffer.new ≡ take at buffer.old ++ bytes ++ drop (at + gate_size) buffer.old }

@@ -11,7 +11,7 @@ use verdict_line::write_verdict;
 
 // The line of an outcome: its verdict's word, the two inputs and the five counts.
 pub fn write_outcome(o: Outcome) -> Line
-    ensures { result.bytes ≡ line_of (says (result_of o)) }
+    ensures { result.items ≡ line_of (says (result_of o)) }
 {
     let numbers = [
         o.first,

@@ -11,7 +11,7 @@ use line_bytes::{Line, write_line};
 // The line of a verdict's word and some numbers.
 pub fn write_verdict(verdict: Verdict, numbers: &[u16]) -> Line
     requires { length numbers.now ≤ 7 }
-    ensures { result.bytes ≡ line_with (verdict_word (verdict_of verdict)) numbers.now }
+    ensures { result.items ≡ line_with (verdict_word (verdict_of verdict)) numbers.now }
 {
-    write_line(verdict.word(), numbers)
+    write_line(verdict.word().as_bytes(), numbers)
 }

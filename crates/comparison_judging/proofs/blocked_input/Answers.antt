@@ -24,17 +24,23 @@ small n s l first =
     omega (arith, from-among 0 n such.0)
 
 pub overflow_cast-result : goal.overflow_cast-result
-overflow_cast-result c = omega (arith, small _ _ (omega arith) (qubit _ _ _ (omega arith) c.below.ensures c.in-Some.ensures))
+overflow_cast-result c =
+    let few = c.count.ensures.few in
+    omega (arith, c.number.ensures.number, small _ _ few (qubit _ _ _ few (rw c.count.ensures.count at c.below.ensures) c.in-Some.ensures))
 
 pub overflow_shl-result : goal.overflow_shl-result
-overflow_shl-result c = small _ _ (omega arith) (qubit _ _ _ (omega arith) c.below.ensures c.in-Some.ensures)
+overflow_shl-result c =
+    let few = c.count.ensures.few in
+    omega (arith, c.number.ensures.number, small _ _ few (qubit _ _ _ few (rw c.count.ensures.count at c.below.ensures) c.in-Some.ensures))
 
 pub returns-in-Some : goal.returns-in-Some
 unfolding blocked_input
 returns-in-Some c =
-    let first = qubit _ _ _ (omega arith) c.below.ensures c.in-Some.ensures in
-    rw (c.if-by.false, first, one-mul) (mod-eq_of_lt (pow-lt (small _ _ (omega arith) first)))
+    let few = c.count.ensures.few in
+    let first = qubit _ _ _ few (rw c.count.ensures.count at c.below.ensures) c.in-Some.ensures in
+    rw (c.if-by.false, first, c.number.ensures.number, one-mul) (mod-eq_of_lt (pow-lt (small _ _ few first)))
 
 pub returns-in-None : goal.returns-in-None
 unfolding blocked_input
-returns-in-None c = rw (c.if-by.false, qubit _ _ _ (omega arith) c.below.ensures c.in-None.ensures)
+returns-in-None c =
+    rw (c.if-by.false, qubit _ _ _ c.count.ensures.few (rw c.count.ensures.count at c.below.ensures) c.in-None.ensures)

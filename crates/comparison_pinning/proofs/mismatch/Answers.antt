@@ -1,7 +1,10 @@
 -- `comparison_pinning::mismatch` meets its contract: input q is the set of variable q alone.
 -- Assumes nothing.
-use Rattle.comparison_types.proofs.PinLaws.{with_input}
+use mathlib.Core.Path.{refl}
+use Rattle.amplitude.proofs.BitLaws.{bit_zero}
+use Rattle.phase_sum_meaning.specs.Building.{input}
 use Rattle.comparison_pinning.proofs.mismatch.Goals as goal
 
 pub returns : goal.returns
-returns c = rw (c.bitxor.ensures, c.single.ensures, ← c.get-w.ensures) (with_input c.get-w.result c.args.q)
+unfolding input
+returns c = rw (c.bitxor.ensures, c.from.ensures, c.new.ensures, ← c.get.ensures, bit_zero c.args.q) refl

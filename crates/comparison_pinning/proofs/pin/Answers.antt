@@ -10,7 +10,7 @@ pin_qubit-requires c =
     (omega (arith, to.wires), omega (arith, to.pins), to.sized, c.loop-q.invariant.1)
 
 pub returns-in-Err : goal.returns-in-Err
-returns-in-Err c = pinned_blocked _ _ _ (omega arith) c.loop-q.invariant.0 c.in-Err.ensures
+returns-in-Err c = rw c.blocked_at.ensures (pinned_blocked _ _ _ (omega arith) c.loop-q.invariant.0 c.in-Err.ensures)
 
 pub loop-q-preserved : goal.loop-q-preserved
 loop-q-preserved c =
@@ -18,4 +18,4 @@ loop-q-preserved c =
     (more_pinned _ _ _ (omega arith) c.loop-q.invariant.0 c.in-Ok.ensures, omega (arith, c.loop-q.invariant.1, kept.sets, kept.coeffs))
 
 pub returns : goal.returns
-returns c = all_pinned _ _ _ (omega arith) c.loop-q.invariant.0
+returns c = rw c.stops_at.ensures (all_pinned _ _ _ (omega arith) c.loop-q.invariant.0)

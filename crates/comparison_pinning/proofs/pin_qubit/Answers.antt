@@ -4,14 +4,11 @@ use mathlib.Core.Path.{sym, ap, ◌∙◌}
 use lib.ListN.{length}
 use Rattle.phase_sum_types.proofs.TwoWords.{words_long}
 use Rattle.phase_sum_types.proofs.Changing.{sized_stands, wires-replace}
-use Rattle.comparison_types.proofs.PinLaws.{found_below, pinned-found, pinned_free, pinned_stuck}
+use Rattle.comparison_types.proofs.PinLaws.{pinned-found, pinned_free, pinned_stuck}
 use Rattle.comparison_pinning.proofs.pin_qubit.Goals as goal
 
-pub rest_of-requires : goal.rest_of-requires
-rest_of-requires c = found_below _ _ _ (sym c.in-Some.ensures)
-
 pub replace-requires : goal.replace-requires
-replace-requires c = (found_below _ _ _ (sym c.in-Some.ensures), sized_stands c.requires.2, c.requires.3)
+replace-requires c = (sized_stands c.requires.2, c.requires.3)
 
 pub returns-in-Some : goal.returns-in-Some
 returns-in-Some c =

@@ -9,11 +9,12 @@ pub step-requires : goal.step-requires
 step-requires c =
     let inv = c.loop.invariant in
     let member = ready_member _ _ _ (sym c.in-Some.ensures) in
-    (member.0, member.1, going_few inv.0, inv.0.sized, inv.1)
+    (member.0, going_few inv.0, inv.0.sized, inv.1)
 
 pub returns-in-Err : goal.returns-in-Err
 returns-in-Err c =
-    going_blocked _ _ _ _ _ c.loop.invariant.0 _ _ (omega arith) (sym (rw c.new.ensures at c.in-Some.ensures)) c.in-Err.ensures
+    rw c.blocked_at.ensures
+    (going_blocked _ _ _ _ _ c.loop.invariant.0 _ _ (omega arith) (sym (rw c.new.ensures at c.in-Some.ensures)) c.in-Err.ensures)
 
 pub loop-preserved : goal.loop-preserved
 loop-preserved c =
@@ -22,8 +23,9 @@ loop-preserved c =
       omega (arith, c.loop.invariant.1, kept.sets, kept.coeffs),
     )
 
-pub returns-after-loop : goal.returns-after-loop
-returns-after-loop c = going_spent _ _ _ _ _ c.loop.invariant.0 (omega arith)
+pub returns : goal.returns
+returns c = rw c.stops_at-2.ensures (going_spent _ _ _ _ _ c.loop.invariant.0 (omega arith))
 
 pub returns-in_default : goal.returns-in_default
-returns-in_default c = going_idle _ _ _ _ _ c.loop.invariant.0 (sym (rw c.new.ensures at c.in_default.ensures))
+returns-in_default c =
+    rw c.stops_at.ensures (going_idle _ _ _ _ _ c.loop.invariant.0 (sym (rw c.new.ensures at c.in_default.ensures)))

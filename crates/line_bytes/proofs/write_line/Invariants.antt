@@ -5,4 +5,4 @@ use Rattle.line_bytes.specs.Line.{fields}
 use Rattle.line_bytes.proofs.write_line.Given as goal
 
 abbrev pub invariant-loop-number : goal.invariant-loop-number
-invariant-loop-number g l = l.line.bytes ≡ l.word ++ fields (take l.number-index l.numbers)
+invariant-loop-number g l = l.line.items ≡ l.word ++ fields (take l.number-index l.numbers)

@@ -18,10 +18,10 @@ loop-bytes-init c =
     let whole : gates_of c.into_iter-bytes-iterator.result.iter.rest.now ≡ gates_in c.args.gates.now =
     cc (gates_of_chunks c.args.gates.now, c.as_chunks.ensures.front, c.iter.ensures.rest)
     in
-    rw whole (none_run _ _ _ c.requires.1)
+    rw whole (none_run _ _ _ c.requires.0)
 
-pub run_gate-now-requires : goal.run_gate-now-requires
-run_gate-now-requires c =
+pub run_gate-requires : goal.run_gate-requires
+run_gate-requires c =
     let inverted = c.inverse.ensures ∙ ap inverse_gate c.from.ensures in
     let next = next_backwards _ _ c.in-Some.ensures.steps inverted c.loop-bytes.invariant in
     (first_fit (_ ∷ []) _ next, omega arith)
@@ -30,8 +30,8 @@ pub loop-bytes-preserved : goal.loop-bytes-preserved
 loop-bytes-preserved c =
     let inverted = c.inverse.ensures ∙ ap inverse_gate c.from.ensures in
     let next = next_backwards _ _ c.in-Some.ensures.steps inverted c.loop-bytes.invariant in
-    let kept = c.run_gate-now.auto in
-    one_run _ _ _ next c.run_gate-now.ensures (words_long _ _ (gate_wires _ _ _ c.run_gate-now.ensures) kept.sets kept.coeffs)
+    let kept = c.run_gate.auto in
+    one_run _ _ _ next c.run_gate.ensures (words_long _ _ (gate_wires _ _ _ c.run_gate.ensures) kept.sets kept.coeffs)
 
 pub returns : goal.returns
 unfolding inverse_list

@@ -10,10 +10,10 @@ use Rattle.phase_sum_building.proofs.Building.{next_forwards}
 use Rattle.phase_sum_building.proofs.forwards.Goals as goal
 
 pub loop-bytes-init : goal.loop-bytes-init
-loop-bytes-init c = rw (c.as_chunks.ensures.front, gates_of_chunks) (none_run _ _ _ c.requires.1)
+loop-bytes-init c = rw (c.as_chunks.ensures.front, gates_of_chunks) (none_run _ _ _ c.requires.0)
 
-pub run_gate-now-requires : goal.run_gate-now-requires
-run_gate-now-requires c =
+pub run_gate-requires : goal.run_gate-requires
+run_gate-requires c =
     let loop = c.loop-bytes in
     let next = next_forwards c.as_chunks.result.0.now loop.bytes-index c.loop-bytes-test.true c.from.ensures loop.invariant in
     (first_fit (_ ∷ []) _ next, omega arith)
@@ -22,8 +22,8 @@ pub loop-bytes-preserved : goal.loop-bytes-preserved
 loop-bytes-preserved c =
     let loop = c.loop-bytes in
     let next = next_forwards c.as_chunks.result.0.now loop.bytes-index c.loop-bytes-test.true c.from.ensures loop.invariant in
-    let kept = c.run_gate-now.auto in
-    one_run _ _ _ next c.run_gate-now.ensures (words_long _ _ (gate_wires _ _ _ c.run_gate-now.ensures) kept.sets kept.coeffs)
+    let kept = c.run_gate.auto in
+    one_run _ _ _ next c.run_gate.ensures (words_long _ _ (gate_wires _ _ _ c.run_gate.ensures) kept.sets kept.coeffs)
 
 pub returns : goal.returns
 returns c =

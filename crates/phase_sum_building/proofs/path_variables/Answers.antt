@@ -12,7 +12,7 @@ loop-v-init c = rw c.empty-set.ensures (window_empty c.args.n)
 pub loop-v-preserved : goal.loop-v-preserved
 loop-v-preserved c =
     let loop = c.loop-v in
-    window_more c.args.n loop.v (set_of loop.set) (set_of c.bitor-set.result) (omega arith) (rw c.single.ensures at c.bitor-set.ensures)
+    window_more c.args.n loop.v (set_of loop.set) (set_of c.bitor-set.result) (omega arith) (rw (c.single.ensures, c.new.ensures) at c.bitor-set.ensures)
     loop.invariant
 
 pub returns : goal.returns

@@ -1,6 +1,6 @@
 -- `phase_sum_building::run_pair` meets its contract: the first list runs on the sum of no gates, then the second inverted.
 -- Assumes nothing.
-use mathlib.Core.Path.{◌≡◌, refl, ap, ◌∙◌}
+use mathlib.Core.Path.{refl, ap, ◌∙◌}
 use mathlib.Core.List.{List}
 use Prim.Native.Nat.{ℕ}
 use native.Mathlib.Omega.{arith}
@@ -17,36 +17,33 @@ use Rattle.phase_sum_building.proofs.run_pair.Goals as goal
 
 -- once `start` has set the wires, all gates are still to run
 begun_run :
-    (first second : List ℕ) (wires wires' : List Parity) (ss cs : List ℕ) {s : Run} →
+    {first second : List ℕ} {wires wires' : List Parity} (ss : List ℕ) {cs : List ℕ} {s : Run} →
     Buildable (length wires) first second (sets_at ss) cs →
     Leaves (initial 0 (length wires)) 0 s (lent wires ss cs) (lent wires' ss cs) →
     ToRun (append_gates (length wires) (miter_in first second) (initial 0 (length wires))) (miter_in first second) 0 s (lent wires ss cs)
     (lent wires' ss cs)
-begun_run first second wires wires' ss cs {s} fits begun =
+begun_run {first} {second} {wires} ss {s = s} fits begun =
     start_run first second fits s begun (words_long ss ss (ap length begun.wires ∙ initial_wires (length wires)) refl refl)
 
 pub forwards-half-requires : goal.forwards-half-requires
 forwards-half-requires c =
     let a = c.args in
-    let begun = c.start-begun in
-    let run = begun_run a.first.now a.second.now a.wires.now begun.new.wires a.sets.now a.coeffs.now c.requires.0 (begun.ensures _ _) in
-    (c.requires.0.threes, first_fit (gates_in a.first.now) _ run, c.requires.1)
+    let run = begun_run a.sets.now c.requires.0 (c.start-begun.ensures _ _) in
+    (first_fit (gates_in a.first.now) _ run, c.requires.1)
 
 pub backwards-requires : goal.backwards-requires
 backwards-requires c =
     let a = c.args in
-    let begun = c.start-begun in
-    let run = begun_run a.first.now a.second.now a.wires.now begun.new.wires a.sets.now a.coeffs.now c.requires.0 (begun.ensures _ _) in
+    let run = begun_run a.sets.now c.requires.0 (c.start-begun.ensures _ _) in
     let kept = c.forwards-half.auto in
     let long = words_long _ _ (leaves_wires _ _ _ c.forwards-half.ensures) kept.sets kept.coeffs in
     let half = some_run (gates_in a.first.now) _ _ run c.forwards-half.ensures long in
-    (c.requires.0.threes', half.fits, omega arith)
+    (half.fits, omega arith)
 
 pub returns : goal.returns
 returns c =
     let a = c.args in
-    let begun = c.start-begun in
-    let run = begun_run a.first.now a.second.now a.wires.now begun.new.wires a.sets.now a.coeffs.now c.requires.0 (begun.ensures _ _) in
+    let run = begun_run a.sets.now c.requires.0 (c.start-begun.ensures _ _) in
     let kept = c.forwards-half.auto in
     let long = words_long _ _ (leaves_wires _ _ _ c.forwards-half.ensures) kept.sets kept.coeffs in
     let half = some_run (gates_in a.first.now) _ _ run c.forwards-half.ensures long in

@@ -19,7 +19,7 @@ loop-q-init c = (refl, refl)
 pub loop-q-preserved : goal.loop-q-preserved
 loop-q-preserved c =
     let loop = c.loop-q in
-    rw (c.set.ensures, c.single.ensures)
+    rw (c.set.ensures, c.from.ensures, c.new.ensures)
     (length-set loop.wires loop.q (of (single loop.q)) ∙ loop.invariant.0, inputs_more loop.q loop.wires (omega arith) loop.invariant.1)
 
 pub returns : goal.returns
@@ -29,7 +29,7 @@ returns c ss cs =
     let all : loop.q ≡ length c.args.wires.now = omega arith in
     record {
       next = omega arith;
-      constant = refl;
+      constant = c.default.ensures.0;
       wires = inputs_all _ loop.wires loop.invariant.0 (rw all at loop.invariant.1);
-      terms = stored_same 0 ss cs zero-le zero-le;
+      terms = rw c.default.ensures.1 (stored_same 0 ss cs zero-le zero-le);
     }

@@ -7,5 +7,5 @@ use Rattle.phase_sum_gates.proofs.diagonal.Goals as goal
 pub returns : goal.returns
 returns c =
     let a = c.args in
-    diagonal_leaves a.run a.c a.q (lent a.wires.now a.sets.now a.coeffs.now) c.get.result
-    c.put_phase.result c.requires.1 c.get.ensures c.put_phase.ensures
+    diagonal_leaves a.run.now a.c a.q (lent a.wires.now a.sets.now a.coeffs.now) c.get.result
+    c.put_phase-run.result c.requires.1 c.get.ensures c.put_phase-run.ensures

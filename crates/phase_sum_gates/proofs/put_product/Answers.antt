@@ -39,7 +39,7 @@ put_phase-requires c =
 pub returns : goal.returns
 unfolding with_phase
 returns c =
-    let sum = c.both in
+    let sum = c.bitxor in
     let v = parity_of c.args.v in
     rw (← sum.ensures)
     (put_more 6 (parity_of sum.result) (put_more 2 v c.put_phase-once.ensures c.put_phase-twice.ensures)

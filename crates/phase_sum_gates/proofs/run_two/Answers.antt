@@ -7,9 +7,9 @@ use Rattle.phase_sum_gates.proofs.run_two.Goals as goal
 pub returns-in-Cx : goal.returns-in-Cx
 returns-in-Cx c =
     let a = c.args in
-    moves_leaves a.run _ (lent a.wires.now a.sets.now a.coeffs.now) _ c.requires.0 (rw c.in-Cx.is c.add_wire.ensures)
+    moves_leaves a.run.now _ (lent a.wires.now a.sets.now a.coeffs.now) _ c.requires.0 (rw c.in-Cx.is c.add_wire.ensures)
 
 pub returns-in-Swap : goal.returns-in-Swap
 returns-in-Swap c =
     let a = c.args in
-    moves_leaves a.run _ (lent a.wires.now a.sets.now a.coeffs.now) _ c.requires.0 (rw c.in-Swap.is c.swap_wires.ensures)
+    moves_leaves a.run.now _ (lent a.wires.now a.sets.now a.coeffs.now) _ c.requires.0 (rw c.in-Swap.is c.swap_wires.ensures)

@@ -8,7 +8,7 @@ pub returns : goal.returns
 returns c =
     let a = c.args in
     let phase = c.put_phase-phase in
-    y_leaves a.run a.q (lent a.wires.now a.sets.now a.coeffs.now) _ c.get.result phase.result
+    y_leaves a.run.now a.q (lent a.wires.now a.sets.now a.coeffs.now) _ c.get.result phase.result
     c.add.result
     c.requires.0.started
     c.get.ensures

@@ -7,6 +7,6 @@ use Rattle.phase_sum_reading.proofs.odd_both_in.Goals as goal
 pub returns-else-holds_both : goal.returns-else-holds_both
 returns-else-holds_both c =
     let a = c.args in
-    let odd = c.requires.2 in
+    let odd = c.requires in
     c.empty.ensures
     ∙ sym (odd_both_none a.i a.j _ (rw (← odd a.i, ← odd a.j) (sym c.holds_both.ensures ∙ c.if-holds_both.false)))

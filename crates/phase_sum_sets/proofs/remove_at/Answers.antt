@@ -11,5 +11,5 @@ use Rattle.phase_sum_sets.proofs.remove_at.Goals as goal
 pub returns : goal.returns
 returns c =
     let a = c.args in
-    rw (shifted_one (a.v % word_bits) (omega arith))
+    rw (c.number-n.ensures.number, shifted_one (a.v % word_bits) (omega arith))
     (pair_without a.words.now a.i (search rules) (fitting a.words.now (search rules)) a.v (search rules))

@@ -14,7 +14,7 @@ pub returns : goal.returns
 unfolding replace take_out
 returns c =
     let a = c.args in
-    let stands = c.requires.2 in
+    let stands = c.requires.0 in
     let taken = c.take_out_unmerged in
     let p = parity_of a.p in
     let l = lent a.wires.now a.sets.now a.coeffs.now in
@@ -22,7 +22,7 @@ returns c =
     became (replace a.z p (take_out a.y (sum_of a.sum l))) _ l _
     (joined_out a.y a.z p a.sum.phase stands.sets stands.coeffs taken.ensures
     (rebuilt (λ u. replace_in a.z p (of u)) a.sum.phase
-    (all_inside _ (omega (arith, taken.auto.sets, c.requires.3, stands.coeffs))) stands.coeffs sent.constant sent.terms
+    (all_inside _ (omega (arith, taken.auto.sets, c.requires.1, stands.coeffs))) stands.coeffs sent.constant sent.terms
     c.canonical.ensures))
     c.replace_in_wires.ensures
     (rw

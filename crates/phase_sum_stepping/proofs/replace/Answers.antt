@@ -12,7 +12,7 @@ pub returns : goal.returns
 unfolding replace
 returns c =
     let a = c.args in
-    let stands = c.requires.1 in
+    let stands = c.requires.0 in
     let p = parity_of a.p in
     let l = lent a.wires.now a.sets.now a.coeffs.now in
     let sent = c.replace_unmerged-constant.ensures in

@@ -21,11 +21,11 @@ returns c wires =
     let phase = a.sum.phase in
     let n = phase.count in
     let l = slices wires ss cs in
-    let room = all_inside a.sets.now {m = n} (omega (arith, pre.1, pre.2)) in
+    let room = all_inside a.sets.now {m = n} (omega (arith, pre.0, pre.1)) in
     became (take_out a.y (sum_of a.sum l)) _ l _
-    (rebuilt (λ u. of (out_of a.y u)) phase room pre.2
+    (rebuilt (λ u. of (out_of a.y u)) phase room pre.1
     (rw (sent_constant (out_of a.y) phase.constant (held n ss cs)) (omega (arith, c.add.ensures)))
-    (sent_stored (out_of a.y) n ss cs _ room pre.2 c.take_out_unmerged.ensures)
+    (sent_stored (out_of a.y) n ss cs _ room pre.1 c.take_out_unmerged.ensures)
     c.canonical.ensures)
     refl
     (rw c.without.ensures (members-without (set_of a.sum.live) a.y))

@@ -16,7 +16,7 @@ pub canonical-requires : goal.canonical-requires
 canonical-requires c =
     let pre = c.requires in
     let long = c.take_out_unmerged.auto.sets in
-    let count = stored-count (_ ∷ []) (all_inside _ (omega (arith, pre.1, pre.2, long))) (omega (arith, pre.2)) c.append-more.ensures in
+    let count = stored-count (_ ∷ []) (all_inside _ (omega (arith, pre.0, pre.1, long))) (omega (arith, pre.1)) c.append-more.ensures in
     (omega arith, omega arith)
 
 pub returns : goal.returns
@@ -26,9 +26,9 @@ returns c wires =
     let pre = c.requires in
     let phase = a.sum.phase in
     let l = slices wires (sets_at a.sets.now) a.coeffs.now in
-    let room = all_inside a.sets.now {m = phase.count} (omega (arith, pre.1, pre.2)) in
-    became (turned a.c (set_of a.l) (take_out a.y (sum_of a.sum l))) _ l _
-    (turned_out a.y a.c (set_of a.l) phase room (omega (arith, pre.2))
+    let room = all_inside a.sets.now {m = phase.count} (omega (arith, pre.0, pre.1)) in
+    became (turned a.halves.c (set_of a.halves.l) (take_out a.y (sum_of a.sum l))) _ l _
+    (turned_out a.y a.halves.c (set_of a.halves.l) phase room (omega (arith, pre.1))
     (rw (← c.turn-constant.ensures.constant) c.add.ensures)
     c.take_out_unmerged.ensures
     (rw c.turn-constant.ensures.coeff at c.append-more.ensures)

@@ -4,15 +4,8 @@
 use mathlib.Core.Path.{sym}
 use lib.Seq.{length-take-le}
 use Rattle.phase_sum_meaning.specs.Room.{places, set_words}
-use Rattle.comparison_types.proofs.PairLaws.{whole_of}
 use Rattle.comparison_types.proofs.ClauseLaws.{pair_passes, pass_level, pass_fits, pass_said}
 use Rattle.comparison.proofs.comparing.compare_read.Goals as goal
-
-pub gate_bytes-requires : goal.gate_bytes-requires
-gate_bytes-requires c = whole_of c.in_ok-n.ensures.found.first
-
-pub gate_bytes-requires-2 : goal.gate_bytes-requires-2
-gate_bytes-requires-2 c = whole_of c.in_ok-n.ensures.found.second
 
 pub slice_bounds-decide-end : goal.slice_bounds-decide-end
 slice_bounds-decide-end c = (pair_passes _ _ _ c.args.coeffs.now c.in_ok-n.ensures.fault c.in_ok-n.ensures.found).sets
@@ -33,14 +26,12 @@ slice_bounds-decide-end-4 c =
 pub decide-outcome-requires : goal.decide-outcome-requires
 decide-outcome-requires c =
     let pass = pair_passes _ _ c.args.sets.now c.args.coeffs.now c.in_ok-n.ensures.fault c.in_ok-n.ensures.found in
-    let first = c.gate_bytes.ensures.content in
-    let second = c.gate_bytes-2.ensures.content in
-    (pass_fits pass first second, pass_level pass first second)
+    (pass_fits pass, pass_level pass)
 
 pub returns-clause-steps : goal.returns-clause-steps
 returns-clause-steps c =
     let pass = pair_passes _ _ c.args.sets.now c.args.coeffs.now c.in_ok-n.ensures.fault c.in_ok-n.ensures.found in
-    pass_said pass c.gate_bytes.ensures.content c.gate_bytes-2.ensures.content c.decide-outcome.ensures.steps
+    pass_said pass c.decide-outcome.ensures.steps
 
 pub returns-clause-kept : goal.returns-clause-kept
 returns-clause-kept c =

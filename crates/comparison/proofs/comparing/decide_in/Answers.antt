@@ -28,4 +28,4 @@ returns c =
     let n = length a.wires.now in
     let many = ap (λ t. length t.wires) built.ensures.sum ∙ built_wires n _ in
     decided n _ (gates_in a.first.now) (gates_in a.second.now) built.ensures.sum many c.pin-pinned.ensures.end c.reduce_end-end.ensures.end
-    (rw c.len-n.ensures at (c.judge.ensures (lent left.wires left.sets left.coeffs) c.new-terms.ensures))
+    (rw (c.new.ensures, c.len-n.ensures) at (c.judge.ensures (lent left.wires left.sets left.coeffs) c.new-terms.ensures))

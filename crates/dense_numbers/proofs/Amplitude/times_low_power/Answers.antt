@@ -2,7 +2,6 @@
 -- Assumes nothing.
 use mathlib.Core.Path.{◌≡◌, ap, ◌∙◌}
 use native.Mathlib.Omega.{arith}
-use Prim.Native.Nat.{◌%◌}
 use Rattle.amplitude.specs.Number.{mulω, ω^}
 use Rattle.dense_numbers.proofs.Sizes.{sized_omega}
 use Rattle.dense_numbers.proofs.Amplitude.times_low_power.Goals as goal
@@ -28,5 +27,5 @@ returns-in-2 c = rw c.in-2.is (c.times_omega.ensures ∙ ap mulω c.times_omega-
 pub returns-in_default : goal.returns-in_default
 unfolding ω^
 returns-in_default c =
-    let three : c.args.k % 4 ≡ 3 = omega arith in
+    let three : c.args.k ≡ 3 = omega arith in
     rw three (c.times_omega-in_default-2.ensures ∙ ap mulω (c.times_omega-in_default.ensures ∙ ap mulω c.times_omega-y.ensures))

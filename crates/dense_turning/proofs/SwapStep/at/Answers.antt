@@ -10,22 +10,15 @@ use Rattle.dense_turning.proofs.SwapStep.at.Goals.{else-not-has_bit-via-then-not
 
 pub exchange-requires : goal.exchange-requires
 exchange-requires c =
-    let s = c.args.self in
-    let p = pair_at c.args.n s.a c.args.w _ c.requires.qubits.0 c.requires.place (sym c.if-not-has_bit.ensures) c.power.ensures in
-    let q =
-    pair_at c.args.n s.b c.args.w _ c.requires.qubits.1 c.requires.place (sym c.if-not-has_bit-2.ensures)
-    c.power-then-not-has_bit-2.ensures in
+    let p = pair_at c.requires.qubits.0 c.requires.place c.if-not-has_bit.ensures c.power.ensures in
+    let q = pair_at c.requires.qubits.1 c.requires.place c.if-not-has_bit-2.ensures c.power-then-not-has_bit-2.ensures in
     (omega (arith, p.top), omega (arith, q.top))
 
 pub returns-then-not-has_bit-2 : goal.returns-then-not-has_bit-2
 returns-then-not-has_bit-2 c =
-    let s = c.args.self in
-    let p = pair_at c.args.n s.a c.args.w _ c.requires.qubits.0 c.requires.place (sym c.if-not-has_bit.ensures) c.power.ensures in
-    let q =
-    pair_at c.args.n s.b c.args.w _ c.requires.qubits.1 c.requires.place (sym c.if-not-has_bit-2.ensures)
-    c.power-then-not-has_bit-2.ensures in
-    rw c.exchange.ensures
-    (swap_turned c.args.column.now p q c.requires.qubits.2 c.requires.room.places)
+    let p = pair_at c.requires.qubits.0 c.requires.place c.if-not-has_bit.ensures c.power.ensures in
+    let q = pair_at c.requires.qubits.1 c.requires.place c.if-not-has_bit-2.ensures c.power-then-not-has_bit-2.ensures in
+    swap_turned c.args.column.now c.exchange.new.column p q c.requires.qubits.2 c.exchange.ensures.exchanged
 
 pub returns-else-not-has_bit : goal.returns-else-not-has_bit
 returns-else-not-has_bit c =

@@ -17,14 +17,16 @@ unfolding set_of
 returns-then-self-ne0 c =
     let s = c.args.self in
     let found = pair_lowest_low s.low s.high (omega arith) (omega arith) c.if-self-ne0.true in
-    sym (first_lowest most_variables (count_trailing_zeros word_bits s.low) (set_of s) (omega (arith, found.1)) found.0)
+    rw c.new.ensures
+    (sym (first_lowest most_variables (count_trailing_zeros word_bits s.low) (set_of s) (omega (arith, found.1)) found.0))
 
 pub returns-then-self-ne0-2 : goal.returns-then-self-ne0-2
 unfolding set_of
 returns-then-self-ne0-2 c =
     let s = c.args.self in
     let found = pair_lowest_high s.low s.high (omega arith) (omega arith) (omega arith) c.if-self-ne0-2.true in
-    sym (first_lowest most_variables (word_bits + count_trailing_zeros word_bits s.high) (set_of s) (omega (arith, found.1)) found.0)
+    rw c.new-then-self-ne0-2.ensures
+    (sym (first_lowest most_variables (word_bits + count_trailing_zeros word_bits s.high) (set_of s) (omega (arith, found.1)) found.0))
 
 pub returns : goal.returns
 unfolding set_of

@@ -1,31 +1,23 @@
 -- `phase_sum_vectors::pair::build_accepted` meets what `build` requires: behind its tests the variables are few, and the workspaces have all places, so
 -- that two accepted records can be built.
-use Rattle.std.proofs.Common.{◌≡◌, ℕ, ◌+◌, ◌*◌, ◌≤◌, false, List, length, take, replicate, arith, length-take-le, rules}
+use Rattle.std.proofs.Common.{◌≡◌, ℕ, ◌+◌, ◌≤◌, List, length, take, replicate, arith, length-take-le, rules}
 use Rattle.record_format.proofs.Parts.{gates_of_part}
 use Rattle.amplitude.specs.Circuit.{h_gates}
 use Rattle.phase_sum_meaning.specs.Room.{most_variables, places, words_each}
 use Rattle.phase_sum_words.specs.Words.{sets_in}
 use Rattle.phase_sum_types.specs.Workspace.{Level}
+use Rattle.phase_sum_types.specs.declared.Parity.{Parity}
 use Rattle.phase_sum_types.proofs.TwoWords.{level_places}
 use Rattle.phase_sum_types.proofs.Acceptance.{buildable}
 use Rattle.phase_sum_vectors.proofs.pair.build_accepted.Goals as goal
 
--- the words of the first n of sixteen wires
-words_of : (n : ℕ) → n ≤ 16 → length (take (words_each * n) (replicate {A = ℕ} (words_each * 16) 0)) ≡ words_each * n
-words_of n few = length-take-le (words_each * n) (replicate {A = ℕ} (words_each * 16) 0) (omega arith)
-
--- and their constant bits
-flips_of : (n : ℕ) → n ≤ 16 → length (take n (replicate 16 false)) ≡ n
-flips_of n few = length-take-le n (replicate 16 false) few
+-- the first n of sixteen wires are n
+wires_of : (n : ℕ) (w : Parity) → n ≤ 16 → length (take n (replicate 16 w)) ≡ n
+wires_of n w few = length-take-le n (replicate 16 w) few
 
 -- workspaces with all their places have a set at each of them
 all_sets : (ws cs : List ℕ) → Level ws cs → length cs ≡ places → places ≤ length (sets_in words_each ws)
 all_sets ws cs l f = rw (level_places ws cs l) (omega arith)
-
-pub new-wires-requires : goal.new-wires-requires
-new-wires-requires g c =
-    let few = c.if-n-gt-QUBITS.false in
-    rw (words_of c.args.n few, flips_of c.args.n few)
 
 pub build-sum-requires : goal.build-sum-requires
 build-sum-requires g c =
@@ -43,5 +35,5 @@ build-sum-requires g c =
     let all : length coeffs ≡ places = search rules in
     let enough : places ≤ length coeffs = omega arith in
     let fits = buildable _ _ _ _ _ _ coeffs pre.0.1 pre.1.1 few (all_sets sets coeffs terms all) enough in
-    let long = flips_of n c.if-n-gt-QUBITS.false in
+    let long = wires_of n c.default-parities.result c.if-n-gt-MOST_QUBITS.false in
     (rw (c.new-wires.ensures.many, long, first, second) fits, terms)

@@ -1,22 +1,12 @@
--- The record's check, the test for a full record, the gate's check and the test on the buffer's length each turn down by their own row, and
--- behind them a new head and the gate's bytes behind the old ones are the record with one gate more.
+-- The gate's check and the test on the buffer's length each turn down by their own row, and behind them a new head and the gate's bytes behind
+-- the old ones are the record with one gate more.
 -- Assumes nothing.
 use Rattle.std.proofs.Common.{refl}
 use Rattle.std.proofs.lemmas.Result.{err_from_is_err_and}
 use Rattle.record_format.specs.Gate.{raw}
 use Rattle.record_format.proofs.Reading.{accepts}
-use Rattle.record_format.proofs.Writers.{add_unread, add_full, add_bad, add_short, add_stored}
+use Rattle.record_format.proofs.Writers.{add_bad, add_short, add_stored}
 use Rattle.record_writing.proofs.builder.add.Goals as goal
-
-pub returns-in_err-n : goal.returns-in_err-n
-returns-in_err-n c =
-    let p = err_from_is_err_and c.from_residual.result c.from_residual.ensures.1 in
-    rw (p.1, p.2, add_unread (raw c.args.kind c.args.a c.args.b) _ _ c.in_err-n.ensures.answers) (record { answers = refl; leaves = refl })
-
-pub returns-then-g-eq-MOST_GATES : goal.returns-then-g-eq-MOST_GATES
-returns-then-g-eq-MOST_GATES c =
-    let there = accepts _ _ _ c.in_ok-n.ensures.answers in
-    rw (add_full (raw c.args.kind c.args.a c.args.b) _ _ _ there c.if-g-eq-MOST_GATES.true) (record { answers = refl; leaves = refl })
 
 pub returns-in_err-check_gate : goal.returns-in_err-check_gate
 returns-in_err-check_gate c =

@@ -3,19 +3,12 @@
 use Rattle.std.proofs.Common.{◌≡◌, ◌+◌, ◌∷◌, length, ap, ◌∙◌, arith}
 use Rattle.std.proofs.lemmas.List.{nil_from_length, length_push}
 use Rattle.record_format.specs.Gate.{gate_of_three, inverse_gate, inverse_list, gate_bytes, body_bytes}
-use Rattle.record_format.specs.Reading.{size, gates_in}
-use Rattle.record_format.proofs.Chunks.{gates_of, gates_of_chunks, inverses_of_last, length_inverses_of, length_inverse_bytes}
+use Rattle.record_format.specs.Reading.{size}
+use Rattle.record_format.specs.Chunks.{gates_of}
+use Rattle.record_format.proofs.Chunks.{inverses_of_last, length_inverses_of, length_inverse_bytes}
 use Rattle.record_format.proofs.Storing.{none_left}
 use Rattle.record_format.proofs.Writers.{gate_stored}
 use Rattle.record_writing.proofs.inverter.write_inverse.Goals as goal
-
-pub loop-i-init : goal.loop-i-init
-loop-i-init c =
-    let begin = c.into_iter-i-iterator.result in
-    let none : begin.count ≡ 0 = cc in
-    let all : begin.iter.iter.rest.now ≡ c.as_chunks.result.0.now = cc c.iter.ensures.rest in
-    let gates : gates_of begin.iter.iter.rest.now ≡ gates_in c.args.gates.now = cc (c.as_chunks.ensures.front, gates_of_chunks c.args.gates.now, ap gates_of all) in
-    record { fits = omega (arith, ap length all, c.as_chunks.ensures.front_len); left = rw (none, gates) }
 
 pub loop-i-preserved : goal.loop-i-preserved
 loop-i-preserved c =
@@ -39,4 +32,4 @@ unfolding inverse_list body_bytes
 returns c =
     let none = nil_from_length _ c.in-None.ensures.steps.0.0 in
     let left = rw (none, none_left) at c.loop-i.invariant.left in
-    rw (← length_inverse_bytes c.args.gates.now c.requires.0) left
+    rw (← length_inverse_bytes c.args.gates.now) left

@@ -1,9 +1,0 @@
--- `comparison_searching::weight_two` meets its contract. The loop's invariant: no input with two of the first i qubits differs.
--- Assumes nothing.
-use mathlib.Core.Path.{◌≡◌}
-use mathlib.Core.Option.{none}
-use Rattle.comparison_types.specs.Inner.{first_beside}
-use Rattle.comparison_searching.proofs.weight_two.Given as goal
-
-abbrev pub invariant-loop-i : goal.invariant-loop-i
-invariant-loop-i l = first_beside l.terms 0 2 l.i ≡ none

@@ -1,9 +1,0 @@
--- `phase_sum_moving::both` meets its contract. That two bits differ is their exclusive or.
--- Assumes nothing.
-use mathlib.Core.Bool.{xor}
-use Rattle.phase_sum_meaning.specs.Parity.{◌⊕◌}
-use Rattle.phase_sum_moving.proofs.both.Goals as goal
-
-pub returns : goal.returns
-unfolding ◌⊕◌ xor
-returns c = rw c.bitxor.ensures

@@ -1,2 +1,0 @@
--- Lemmas of this crate.
-pub mod Reading

@@ -1,0 +1,2 @@
+-- Lemmas about the words of sets taken two at a time.
+pub mod Chunks
