@@ -34,7 +34,7 @@ fn reduce_end(pinned: End, wires: &mut Wires, sets: &mut [u64], coeffs: &mut [u8
 }
 
 // The comparison of two lists of gates, by their bytes, on as many qubits as there are wires. The wires and the slices keep what the reduction left.
-// Stays: two lists as two parameters, here and below: what `Buildable` says of them goes by n, the number of the wires; a struct with an n of its
+// Stays: two lists as two parameters: what `Buildable` says of them goes by n, the number of the wires; a struct with an n of its
 // own would have each contract say that both are the same.
 fn decide_in(
     first: &[u8],
@@ -55,6 +55,7 @@ fn decide_in(
 }
 
 // The comparison of two lists of gates on n qubits, by their bytes, in the places that are lent. All of them are zero afterwards.
+// Stays: n and the lists apart; of a `Pair` by value the clauses would say `pair.entry.first.now` for `first.now`, as those of `Lists` do.
 fn decide(n: usize, first: &[u8], second: &[u8], sets: &mut [u64], coeffs: &mut [u8]) -> Outcome
     requires { Buildable n first.now second.now (sets_at sets.old) coeffs.old × Level sets.old coeffs.old }
     ensures steps { result_of result ≡ compare 0 n (gates_in first.now) (gates_in second.now) }

@@ -18,7 +18,8 @@ pub use dense_meaning::BUFFER_SIZE;
 pub use dense_types::Outcome;
 
 // The outcome of what the columns show.
-// Stays: by a rule of the project dense_judging, where a From could stand, knows of no crate of path sums, and dense_types builds on some.
+// Stays: a From would stand in dense_judging, which by a rule of the project knows of no crate of path sums, or in dense_types, which would then
+// build on all the code of columns, and with it all that knows an outcome.
 fn outcome_of(judged: Judged) -> Outcome
     ensures { found_of result ≡ found (finding_in judged) }
 {

@@ -1,5 +1,5 @@
 // The dense layer, numbers: exact amplitudes as four signed whole numbers, the coefficients of 1, ω, ω² and ω³ (document 01, "Amplitudes").
-// Every function is given numbers of bounded size, and none overflows.
+// Every function that adds or negates is given numbers of bounded size, and none overflows.
 #![tactic(auto)]
 
 ghost use Rattle.std.specs.Prelude.{◌≡◌, ◌<◌, ◌≤◌};
@@ -73,14 +73,7 @@ impl Neg for Amplitude {
 }
 
 impl Amplitude {
-    // 0 and 1.
-    pub const ZERO: Amplitude = Amplitude {
-        a: 0,
-        b: 0,
-        c: 0,
-        d: 0,
-    };
-
+    // 1.
     pub const ONE: Amplitude = Amplitude {
         a: 1,
         b: 0,

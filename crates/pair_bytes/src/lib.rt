@@ -1,5 +1,5 @@
 // The bytes of a pair that a program gets: which are a record's own, whether others follow, and the place of their number, 12, among the
-// others: document 01, "Where a call is turned down".
+// others: document 01, "Where a call is turned down". Here too is the trait `Comparison`: what a program prints of a comparison.
 #![tactic(auto)]
 
 ghost use Rattle.std.specs.Prelude.{◌≡◌, ℕ, List, Result};

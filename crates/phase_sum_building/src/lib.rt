@@ -56,6 +56,7 @@ pub fn backwards(
 }
 
 // The sum of no gates, on as many qubits as there are wires: no phase yet, and each wire its own input.
+// Stays: that there are at most 16 is asked here, since it is the length of the wires and no number that a `Qubits` holds.
 fn start(wires: &mut Wires) -> Run
     requires { length wires.old ≤ 16 }
     ensures { (ss cs : List ℕ) → Leaves (initial 0 (length wires.old)) 0 result (slices wires.old ss cs) (slices wires.new ss cs) }

@@ -1,4 +1,5 @@
-// The phase-sum layer, gates: what a gate that is more than a move of wires does to the wires and the terms. Document 01, "Building the sum".
+// The phase-sum layer, gates: what each gate does to the wires and the terms; those that only move wires are in phase_sum_moving and `Wires`.
+// Document 01, "Building the sum".
 // The wires are changed in place; the terms are put one behind the other.
 // Stays: sets and coefficients, the two lent workspaces, are two parameters everywhere; `Phase` of phase_sum_types says why.
 #![tactic(auto)]

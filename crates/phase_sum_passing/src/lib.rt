@@ -91,7 +91,7 @@ fn replace_at(
 }
 
 // The variable z replaced by the parity p in every term, unmerged. Returns the constant.
-// Stays: by place, as in `take_out_unmerged`: the words would be lent in chunks there too.
+// Stays: by place, as in `take_out_unmerged`: the words would be lent in chunks here too.
 pub fn replace_unmerged(
     sets: &mut [u64],
     coeffs: &mut [u8],

@@ -77,7 +77,7 @@ impl TryFrom<u8> for OneQubit {
 
 // The gate that a record's three bytes stand for. The conversion can not fail, so that a kind above 10 is read as 10: the check of a record
 // refuses it before any gate is decoded.
-// Stays: the numbers of two-qubit gates stand here alone; a conversion of `TwoQubit` would be the same three arms.
+// Stays: the numbers of two-qubit gates are read here alone; a `TryFrom` of `TwoQubit` would be the same three arms.
 impl From<[u8; 3]> for Gate {
     ghost from_gives = { λ bytes gate. gate_in gate ≡ gate_of_three bytes };
 

@@ -1,5 +1,5 @@
 // The record layer, its base: gate-list and report records as bytes (document 01, "Gate lists as bytes", "Report, pick, builder", "Where a
-// call is turned down"; document 02, item 1). Here stand the format's definitions and laws, and the types of the answers. Licensees use
+// call is turned down"; document 02, item 1). Here stand the format's definitions and laws, and the types of the answers and, in `gate`, of gates. Licensees use
 // `records`.
 #![tactic(auto)]
 
@@ -12,7 +12,8 @@ ghost use Rattle.record_format.specs.Answer.{number_of};
 pub const HEAD_SIZE: usize = 5;
 
 // The bytes of a gate: kind, a, b.
-// Stays: a record's size, HEAD_SIZE + GATE_SIZE * g, is written out where it is asked: one sum, of g that stands in a head, a slice's length or a constant.
+// Stays: a record's size, HEAD_SIZE + GATE_SIZE * g, is written out where it is asked; a function would ask for a bound on g, which each place would
+// have to show as it shows now that its own sum fits.
 pub const GATE_SIZE: usize = 3;
 
 // Why a call is turned down. specs/Answer.antt gives each case the table's number and the index of its gate.
