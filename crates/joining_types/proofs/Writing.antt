@@ -30,7 +30,7 @@ use Rattle.joining_types.specs.Call.{joined_answer, join_in_time, join_in_space}
 use Rattle.joining_types.specs.Clauses.{WhereWritten}
 use Rattle.joining_types.specs.Inner.{Holds, written}
 use Rattle.joining_types.specs.declared.Refusal.{Refusal}
-use Rattle.joining_types.proofs.Shifting.{shift_none, encode_joined, put_behind_lem}
+use Rattle.joining_types.proofs.Shifting.{shift_none, encode_append, put_behind_lem}
 
 -- a check that answers a head found an accepted record with it
 pub holds : (s : List ℕ) (head : Head) → gives (head.n ∷ head.g ∷ []) ≡ check_answer (read s) → Holds head s
@@ -142,4 +142,4 @@ module _ (n : ℕ) (gs hs : List Gate) (l : List ℕ) where
       let l₂-is : l₂ ≡ p ++ drop (size a) l = e' ∙ rw (e, ← here) (put_behind_lem head (body_bytes gs) l 5 refl) in
       let last = rw there at (put_behind_lem p x l (size a) long-p) in
       rw (many, many', le-ltb most_gates (a + b) few, le-ltb (length l) (size (a + b)) fits)
-      (outcome_of _ (p ++ x) l (size (a + b)) (rw (many, many') at (encode_joined n gs hs)) long ∙ rw (l₂-is, last, end))
+      (outcome_of _ (p ++ x) l (size (a + b)) (rw (many, many') at (encode_append n gs hs)) long ∙ rw (l₂-is, last, end))

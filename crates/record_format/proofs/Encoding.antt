@@ -269,17 +269,22 @@ inverse-gate (one u a) rest =
 inverse-gate (two v a b) rest = elim v as (λ k. inverse_bytes (gate_bytes (two k a b) ++ rest) ≡ inverse_bytes rest ++ gate_bytes (inverse_gate (two k a b))) [ CX ↦ refl | CZ ↦ refl | SWAP ↦ refl ]
 
 -- the inverse of gates, in bytes
-inverse-body : (gs : List Gate) → body_bytes (inverse_list gs) ≡ inverse_bytes (body_bytes gs)
+pub inverse-body : (gs : List Gate) → body_bytes (inverse_list gs) ≡ inverse_bytes (body_bytes gs)
 unfolding body_bytes inverse_bytes
 inverse-body [] = unfold inverse_list in refl
 inverse-body (g ∷ gs) =
     rw (inverse_cons g gs, body-append (inverse_list gs) (inverse_gate g ∷ []), append-nil, inverse-body gs, inverse-gate g (body_bytes gs))
 
 -- the inverse record is the old head and the bytes of the inverted gates
-pub encode-inverse : (s : List ℕ) → first (record_rows s) ≡ none
+pub encode-inverted : (s : List ℕ) → first (record_rows s) ≡ none
     → encode (qubits s) (inverse_list (gates s)) ≡ head_bytes (qubits s) (count s) ++ body_bytes (inverse_list (gates s))
 unfolding encode
-encode-inverse s good = rw (length-inverse, length_gates s (good_head s good).whole)
+encode-inverted s good = rw (length-inverse, length_gates s (good_head s good).whole)
+
+-- it is the old head and the inverted gate bytes
+pub encode-inverse : (s : List ℕ) → first (record_rows s) ≡ none
+    → encode (qubits s) (inverse_list (gates s)) ≡ head_bytes (qubits s) (count s) ++ inverse_bytes (body s)
+encode-inverse s good = rw (encode-inverted s good, inverse-body (gates s), body_gates s good)
 
 -- a number below 65536 is the number of its two bytes
 pub two_bytes_back : (x : ℕ) → x < 65536 → from_bytes (x % 256) (x / 256 % 256) ≡ x

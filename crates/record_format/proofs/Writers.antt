@@ -20,7 +20,7 @@ use Rattle.record_format.specs.Answer.{gives, refuses}
 use Rattle.record_format.specs.Writing.{Outcome, head_bytes, encode, check_answer, write, add, inverse}
 use Rattle.record_format.specs.Inner.{appended}
 use Rattle.record_format.proofs.Rows.{first_none, first_some}
-use Rattle.record_format.proofs.Encoding.{length-gate, length-body, length_gates, length-encode, encode-appended, encode-inverse}
+use Rattle.record_format.proofs.Encoding.{length-gate, length-body, length_gates, length-encode, encode-appended, encode-inverted}
 use Rattle.record_format.proofs.Storing.{behind_head, with_left, piece_stored}
 use Rattle.record_format.proofs.Chunks.{gates_of_raws}
 use Rattle.record_format.proofs.Reading.{Accepts, refuses_by}
@@ -140,4 +140,4 @@ unfolding inverse
 inverse_stored s l n g m chunks read-s fits e part many =
     write_on _ _ l read-s.good
     ∙ write_fits _ l (size g) (length-inverse s n g read-s) fits
-    ∙ rw (many, e, behind_head (head_bytes n g) l (3 * g), encode-inverse s read-s.good, gates_of_raws chunks _ part, read-s.n_is, read-s.g_is)
+    ∙ rw (many, e, behind_head (head_bytes n g) l (3 * g), encode-inverted s read-s.good, gates_of_raws chunks _ part, read-s.n_is, read-s.g_is)
