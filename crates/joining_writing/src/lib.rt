@@ -7,7 +7,7 @@ ghost use Rattle.record_format.specs.Gate.{Within, AllWithin, body_bytes, shift_
 ghost use Rattle.record_format.specs.Chunks.{gates_of};
 ghost use Rattle.record_format.specs.Typed.{gate_in};
 ghost use Rattle.joining_types.specs.Call.{joined_answer};
-ghost use Rattle.joining_types.specs.Inner.{written};
+ghost use Rattle.joining_types.specs.Inner.{shift_bytes, written};
 
 use joining_types::Refusal;
 use record_format::gate::Gate;
@@ -35,7 +35,8 @@ fn shifted(gate: Gate, shift: u8) -> Gate
 // A list's gates at a place of a buffer, their qubits numbered further on by a shift.
 fn write_gates(buffer: &mut [u8], at: usize, shift: u8, gates: &[[u8; 3]])
     requires { (at + gate_size * length gates.now ≤ length buffer.old) × (shift ≤ most_qubits) × AllWithin most_qubits (gates_of gates.now) }
-    ensures { buffer.new ≡ take at buffer.old ++ body_bytes (shift_list shift (gates_of gates.now)) ++ drop (at + gate_size * length gates.now) buffer.old }
+    ensures as_gates { buffer.new ≡ take at buffer.old ++ body_bytes (shift_list shift (gates_of gates.now)) ++ drop (at + gate_size * length gates.now) buffer.old }
+    ensures as_bytes { buffer.new ≡ take at buffer.old ++ shift_bytes shift (body_bytes (gates_of gates.now)) ++ drop (at + gate_size * length gates.now) buffer.old }
 {
     for (i, bytes) in gates.iter().enumerate() {
         let gate = shifted(Gate::from(*bytes), shift);

@@ -10,7 +10,7 @@ use mathlib.Core.Bool.{Bool, true, false, ◌&&◌, ◌||◌, true≢false, and-
 use mathlib.Core.Option.{none}
 use mathlib.Core.List.{List, [], ◌∷◌, ◌++◌, map, append-nil, append_assoc}
 use lib.Seq.{take-add, take_at}
-use lib.ListN.{length, get_or, take, length-append, length-map, length-take, length-drop}
+use lib.ListN.{length, get_or, take, drop, length-append, length-map, length-take, length-drop}
 use lib.Dec.{T as IsSo, ltb, leb, eqb, lit<, lit≤}
 use borrow.Author.Tests.{ltb-false, leb-true, leb-false, eqb-true, eqb-false, not-false, le-ltb, lt-leb, lt-ltb, ne_eqb}
 use Rattle.record_format.specs.Format.{list_mark, head_size, gate_size, most_qubits, most_gates, last_one_qubit, last_kind, no_qubit, from_bytes, Bytes}
@@ -19,7 +19,7 @@ use Rattle.record_format.specs.Row.{first}
 use Rattle.record_format.specs.Reading.{size, count, qubits, body, raws, gates_in, gates, bad_qubits, marked, head_rows, gate_rows, all_gate_rows, record_rows}
 use Rattle.record_format.specs.Writing.{head_bytes, encode}
 use Rattle.record_format.specs.Promises.{NoneHolds}
-use Rattle.record_format.specs.Inner.{appended, inverse_bytes}
+use Rattle.record_format.specs.Inner.{inverse_bytes}
 use Rattle.record_format.proofs.GateLaws.{inverse_cons, length-inverse}
 use Rattle.record_format.proofs.Rows.{none_holds, none_left, none_right, first_none}
 
@@ -249,6 +249,10 @@ pub body_gates : (s : List ℕ) → first (record_rows s) ≡ none → body_byte
 body_gates s good =
     let whole = (good_head s good).whole in
     gates_bytes (qubits s) 0 (body s) (simp (length-take, length-drop) (omega arith)) (good_body s good)
+
+-- the bytes that adding writes: the head with one gate more, the old gates' bytes, the new gate's
+abbrev pub appended : ℕ → ℕ → List ℕ → List ℕ → List ℕ
+appended n g bytes buffer = head_bytes n (g + 1) ++ take (gate_size * g) (drop head_size buffer) ++ bytes
 
 -- the record with one gate more is the old gate bytes behind a new head, and the new gate's bytes
 pub encode-appended : (s : List ℕ) (r : Raw) (i : ℕ)

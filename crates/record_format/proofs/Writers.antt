@@ -18,9 +18,8 @@ use Rattle.record_format.specs.Reading.{size, qubits, count, gates, raws, gate_r
 use Rattle.record_format.specs.Chunks.{raws_of, gates_of}
 use Rattle.record_format.specs.Answer.{gives, refuses}
 use Rattle.record_format.specs.Writing.{Outcome, head_bytes, encode, check_answer, write, add, inverse}
-use Rattle.record_format.specs.Inner.{appended}
 use Rattle.record_format.proofs.Rows.{first_none, first_some}
-use Rattle.record_format.proofs.Encoding.{length-gate, length-body, length_gates, length-encode, encode-appended, encode-inverted}
+use Rattle.record_format.proofs.Encoding.{length-gate, length-body, length_gates, length-encode, appended, encode-appended, encode-inverted}
 use Rattle.record_format.proofs.Storing.{behind_head, with_left, piece_stored}
 use Rattle.record_format.proofs.Chunks.{gates_of_raws}
 use Rattle.record_format.proofs.Reading.{Accepts, refuses_by}

@@ -1,20 +1,15 @@
 -- What the layer's private functions do, for their contracts. No public contract cites anything of this file.
 -- Assumes nothing.
-use Rattle.std.specs.Prelude.{ℕ, ◌+◌, ◌*◌, List, [], ◌∷◌, ◌++◌, take, drop}
-use Rattle.record_format.specs.Format.{head_size, gate_size}
+use Rattle.std.specs.Prelude.{ℕ, List, [], ◌∷◌, ◌++◌}
 use Rattle.record_format.specs.Gate.{inverse_number}
 use Rattle.record_format.specs.Row.{Fault, first}
 use Rattle.record_format.specs.Reading.{qubits, count, head_rows}
 use Rattle.record_format.specs.Answer.{Answer, gives}
-use Rattle.record_format.specs.Writing.{fault_or, head_bytes}
+use Rattle.record_format.specs.Writing.{fault_or}
 
 -- what the checks on head and body answer
 abbrev pub head_answer : List ℕ → Answer Fault
 head_answer s = fault_or (first (head_rows s)) (gives (qubits s ∷ count s ∷ []))
-
--- the bytes that adding writes: the head with one gate more, the old gates' bytes, the new gate's
-abbrev pub appended : ℕ → ℕ → List ℕ → List ℕ → List ℕ
-appended n g bytes buffer = head_bytes n (g + 1) ++ take (gate_size * g) (drop head_size buffer) ++ bytes
 
 -- gate bytes, the gates backwards and each inverted
 unfoldable pub inverse_bytes : List ℕ → List ℕ

@@ -1,7 +1,7 @@
 // Gates in their typed form, and as a record's three bytes: kind, a, b.
 ghost use Rattle.std.specs.Prelude.{◌≡◌, ◌<◌, MatchResult};
 ghost use Rattle.record_format.specs.Format.{last_one_qubit};
-ghost use Rattle.record_format.specs.Gate.{gate_bytes, gate_of_three, inverse_gate, inverse_kind, one_qubit_kind, two_qubit_kind};
+ghost use Rattle.record_format.specs.Gate.{gate_bytes, gate_of_three, inverse_gate, inverse_kind, inverse_number, one_qubit_kind, two_qubit_kind};
 ghost use Rattle.record_format.specs.Typed.{one_in, two_in, gate_in};
 
 // b of a gate on one qubit.
@@ -120,9 +120,10 @@ impl From<Gate> for [u8; 3] {
 
 impl OneQubit {
     // S and T exchanged for their inverses; every other gate is its own inverse.
-    #[tactic(auto, unfolding(crate::specs::Gate::inverse_kind))]
+    #[tactic(auto, unfolding(crate::specs::Gate::inverse_kind, crate::specs::Gate::inverse_number, crate::specs::Gate::one_qubit_kind))]
     pub fn inverse(self) -> OneQubit
-        ensures { one_in result ≡ inverse_kind (one_in self) }
+        ensures kind { one_in result ≡ inverse_kind (one_in self) }
+        ensures number { one_qubit_kind (one_in result) ≡ inverse_number (one_qubit_kind (one_in self)) }
     {
         match self {
             OneQubit::S => OneQubit::SInverse,

@@ -6,6 +6,7 @@ ghost use Rattle.record_format.specs.Reading.{size};
 ghost use Rattle.record_format.specs.Chunks.{gates_of};
 ghost use Rattle.record_format.specs.Writing.{inverse};
 ghost use Rattle.record_format.specs.Answer.{written_answer};
+ghost use Rattle.record_format.specs.Inner.{inverse_bytes};
 
 use crate::{write_gate, write_head};
 use record_format::gate::Gate;
@@ -15,7 +16,8 @@ use record_reading::{check, whole_gates};
 // The gates, backwards and each inverted, behind the head in the buffer.
 fn write_inverse(gates: &[[u8; 3]], buffer: &mut [u8])
     requires { size (length gates.now) ≤ length buffer.old }
-    ensures { buffer.new ≡ take head_size buffer.old ++ body_bytes (inverse_list (gates_of gates.now)) ++ drop (size (length gates.now)) buffer.old }
+    ensures as_gates { buffer.new ≡ take head_size buffer.old ++ body_bytes (inverse_list (gates_of gates.now)) ++ drop (size (length gates.now)) buffer.old }
+    ensures as_bytes { buffer.new ≡ take head_size buffer.old ++ inverse_bytes (body_bytes (gates_of gates.now)) ++ drop (size (length gates.now)) buffer.old }
 {
     for (i, bytes) in gates.iter().rev().enumerate() {
         let gate = Gate::from(*bytes);

@@ -8,6 +8,7 @@ use Rattle.record_format.proofs.Chunks.{length_gates_of, length_shifted_bytes}
 use Rattle.record_format.proofs.GateLaws.{length_shift}
 use Rattle.record_format.proofs.Storing.{none_left}
 use Rattle.record_format.proofs.Writers.{gate_stored}
+use Rattle.joining_types.proofs.Shifting.{shift_body}
 use Rattle.joining_writing.proofs.write_gates.Goals as goal
 
 pub loop-i-preserved : goal.loop-i-preserved
@@ -34,4 +35,5 @@ unfolding body_bytes shift_list
 returns c =
     let none = at_drop_all gates_of c.args.gates.now c.loop-i.i c.loop-i-test.false in
     let left = rw (none, none_left) at c.loop-i.invariant.left in
-    rw (← length_shifted_bytes c.args.shift c.args.gates.now) left
+    let stored = rw (length_shifted_bytes c.args.shift c.args.gates.now) at left in
+    record { as_gates = stored; as_bytes = rw (shift_body c.args.shift (gates_of c.args.gates.now)) at stored }

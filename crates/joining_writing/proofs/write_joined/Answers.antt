@@ -11,5 +11,5 @@ pub returns : goal.returns
 returns c =
     let a = c.args in
     rw (lists_stored a.n _ _ a.buffer.now _ _ _ _ (length_gates_of a.first.now) (length_shift a.shift _ ∙ length_gates_of a.second.now)
-    (omega arith) (omega (arith, c.if-buffer-size.false)) c.write_head.ensures (rw shift_none at c.write_gates.ensures))
-    (record { answers = refl; leaves = c.write_gates-2.ensures })
+    (omega arith) (omega (arith, c.if-buffer-size.false)) c.write_head.ensures (rw shift_none at c.write_gates.ensures.as_gates))
+    (record { answers = refl; leaves = c.write_gates-2.ensures.as_gates })

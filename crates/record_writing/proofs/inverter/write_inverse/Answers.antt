@@ -5,6 +5,7 @@ use Rattle.std.proofs.lemmas.List.{nil_from_length, length_push}
 use Rattle.record_format.specs.Gate.{gate_of_three, inverse_gate, inverse_list, gate_bytes, body_bytes}
 use Rattle.record_format.specs.Reading.{size}
 use Rattle.record_format.specs.Chunks.{gates_of}
+use Rattle.record_format.proofs.Encoding.{inverse-body}
 use Rattle.record_format.proofs.Chunks.{inverses_of_last, length_inverses_of, length_inverse_bytes}
 use Rattle.record_format.proofs.Storing.{none_left}
 use Rattle.record_format.proofs.Writers.{gate_stored}
@@ -32,4 +33,5 @@ unfolding inverse_list body_bytes
 returns c =
     let none = nil_from_length _ c.in-None.ensures.steps.0.0 in
     let left = rw (none, none_left) at c.loop-i.invariant.left in
-    rw (← length_inverse_bytes c.args.gates.now) left
+    let stored = rw (length_inverse_bytes c.args.gates.now) at left in
+    record { as_gates = stored; as_bytes = rw (inverse-body (gates_of c.args.gates.now)) at stored }
