@@ -40,12 +40,25 @@ pub enum Judged {
     Different(u16),
 }
 
-// Does ω^j carry the first column to the second?
-fn carries(first: &[[i64; 4]], second: &[[i64; 4]], n: usize, j: u8) -> bool
+// Does ω^j carry the first column to the second, place by place? It stands in full at each call, so that a power known there is not asked for
+// at each place.
+#[inline(always)]
+fn all_carried(first: &[[i64; 4]], second: &[[i64; 4]], n: usize, j: u8) -> bool
     requires { Room n first.now × Room n second.now × AllSized n most_doublings (amplitude_at first.now) }
     ensures { result ≡ carries_state n j (amplitude_at first.now) (amplitude_at second.now) }
 {
     (0..power(n)).all(|w| load(first, w).carries_to(j, load(second, w)))
+}
+
+// Does ω^j carry the first column to the second? The power that most lists have, 1, comes first.
+fn carries(first: &[[i64; 4]], second: &[[i64; 4]], n: usize, j: u8) -> bool
+    requires { Room n first.now × Room n second.now × AllSized n most_doublings (amplitude_at first.now) }
+    ensures { result ≡ carries_state n j (amplitude_at first.now) (amplitude_at second.now) }
+{
+    match j {
+        0 => all_carried(first, second, n, 0),
+        _ => all_carried(first, second, n, j),
+    }
 }
 
 // Column v of both lists, each times √2 as often as the other has H gates.

@@ -1,4 +1,4 @@
--- `dense_judging::carries` meets its contract: the test is made at every place.
+-- `dense_judging::all_carried` meets its contract: the test is made at every place.
 -- Assumes nothing.
 use mathlib.Core.Path.{refl, ap, ◌∙◌}
 use mathlib.Core.Bool.{Bool}
@@ -12,7 +12,7 @@ use Rattle.amplitude.specs.Number.{ω^}
 use Rattle.amplitude.specs.Testing.{eqω, below, carries_state}
 use Rattle.dense_columns.specs.Columns.{amplitude_at}
 use Rattle.dense_judging.proofs.Ranges.{below_range}
-use Rattle.dense_judging.proofs.carries.Goals as goal
+use Rattle.dense_judging.proofs.all_carried.Goals as goal
 
 pub returns : goal.returns
 unfolding carries_state
