@@ -14,6 +14,7 @@ does not list.
 import os
 import random
 import re
+import resource
 import subprocess
 import sys
 import tempfile
@@ -29,6 +30,8 @@ ROOT = os.path.join(os.path.dirname(os.path.abspath(__file__)), "..")
 SEED = 20261115
 # the words and the bytes that a comparison needs
 NEEDED = (6400, 3200)
+# a row's size far above the memory that a program gets, both in bytes
+LONG_ROW, LITTLE_MEMORY = 300_000_000, 64 << 20
 # the line that each program prints for its input
 PROGRAM_LINES = {"compare": ref.run_program, "compare_small": ref.run_small_program}
 
@@ -733,6 +736,34 @@ def bad_rows(check, rng):
 # Fixed cases.
 
 
+def long_row(check, name, short):
+    """A row that the program's memory cannot hold, and a short one behind it: the program answers both, by its name only as far as a row reaches."""
+
+    def limit():
+        resource.setrlimit(resource.RLIMIT_AS, (LITTLE_MEMORY, LITTLE_MEMORY))
+
+    piece = b"a" * 1_000_000
+    with subprocess.Popen([program(name)], stdin=subprocess.PIPE, stdout=subprocess.PIPE, bufsize=0, preexec_fn=limit) as child:
+        try:
+            for _ in range(LONG_ROW // len(piece)):
+                child.stdin.write(piece)
+            child.stdin.write(f"\n{short}\n".encode())
+        except BrokenPipeError:
+            pass  # it ended before its input did, and is found out below
+        child.stdin.close()
+        printed = child.stdout.read().decode()
+    want = f"{'a' * call_rows.MOST_LINE}: bad row\n{call_rows.line(short)}\nrows 2\n"
+    if child.returncode or printed != want:
+        fail(f"{name} ended with {child.returncode} on a row of {LONG_ROW} bytes and\n{short}\nprinted\n{printed}wanted\n{want}")
+    check.see(f"rows of {name}: longer than its memory")
+
+
+def fixed_long_rows(check):
+    """Each program of rows: a row takes no more memory, however long it is."""
+    for name, short in (("record_calls", "1;check;;5143010000;"), ("pair_calls", "1;dense;512 0;5143010000;=")):
+        long_row(check, name, short)
+
+
 def full_records():
     """Two records of 512 gates: on 1 qubit, on 16 qubits with 112 H gates, and on 16 qubits with 512 gates on two."""
     h = pairs.one(ref.H, *(q % 16 for q in range(56)))
@@ -899,6 +930,7 @@ def main():
     fixed_turns(check)
     fixed_small_inputs(check)
     fixed_rows(check)
+    fixed_long_rows(check)
     fixed_refusals(check)
     fixed_small_rows(check)
     fixed_joins(check)

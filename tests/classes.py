@@ -214,4 +214,5 @@ CLASSES = (
     *(f"program {name}: {size} bytes" for name in ("compare", "compare_small") for size in (3082, 3083, 1000000)),
     "program compare: more than 64 variables",
     *(f"rows of {name}" for name in PROGRAMS),
+    *(f"rows of {name}: longer than its memory" for name in PROGRAMS),
 )

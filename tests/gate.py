@@ -18,7 +18,7 @@ sys.dont_write_bytecode = True
 import against_reference as cross
 import front_door
 import make_rows
-from call_rows import PROGRAMS
+from call_rows import MOST_LINE, PROGRAMS
 from classes import CLASSES
 
 HERE = os.path.dirname(os.path.abspath(__file__))
@@ -668,6 +668,22 @@ def try_cross_check(folder):
         passes(f"cross-check, {line}", one_row, f"echo '0: {line}'; echo 'rows 1'", row)
         for other in others:
             ends(f"cross-check, {other} for {line}", one_row, f"echo '0: {other}'; echo 'rows 1'", row)
+
+    def one_long_row(text):
+        put(folder, "record_calls", f"#!/bin/sh\n{text}\n", 0o755)
+        cross.long_row(cross.Check(), "record_calls", "1;check;;5143010000;")
+
+    named = f"head -c {MOST_LINE} /dev/zero | tr '\\0' a"
+    both = f"{named}; echo ': bad row'; echo '1: accepted 1 0'; echo 'rows 2'"
+    passes("cross-check, a long row", one_long_row, f"cat >/dev/null; {both}")
+    for label, text in (
+        ("held in memory", f"tail -n 1 >/dev/null 2>&1 && {both}"),
+        ("the end before it", "echo 'rows 0'"),
+        ("no row behind it", f"cat >/dev/null; {named}; echo ': bad row'; echo 'rows 1'"),
+        ("a longer name", f"cat >/dev/null; printf a; {both}"),
+        ("a failure at the end", f"cat >/dev/null; {both}; exit 1"),
+    ):
+        ends(f"cross-check, a long row: {label}", one_long_row, text)
 
     def one_input(name, text, want, data):
         put(folder, name, f"#!/bin/sh\n{text}\n", 0o755)
