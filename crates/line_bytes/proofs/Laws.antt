@@ -1,14 +1,15 @@
 -- Laws of the line: its numbers are those that the library writes, and are read back; and how long they are.
 -- Assumes nothing.
-use Rattle.std.proofs.Common.{◌≡◌, ℕ, zero, suc, ◌+◌, ◌*◌, ◌/◌, ◌%◌, ◌<◌, ◌≤◌, true, false, cond, List, [], ◌∷◌, ◌++◌, length, length-append, sym, ap, ◌∙◌, append_assoc, take, length-take-le, rules, arith}
+use Rattle.std.proofs.Common.{◌≡◌, ℕ, zero, suc, ◌+◌, ◌*◌, ◌/◌, ◌%◌, ◌<◌, ◌≤◌, true, false, cond, List, [], ◌∷◌, ◌++◌, length, length-append, refl, sym, ap, ◌∙◌, append_assoc, append-nil, take, drop, length-take-le, rules, arith}
 use lib.Dec.{ltb}
 use Rattle.std.specs.Fmt
 use Rattle.std.specs.Str.{all_ascii_digits}
 use Rattle.std.proofs.lemmas.Fmt.{AppendsLastDigit, decimal_from_appends, length-decimal-le, digits_value-decimal}
 use Rattle.std.proofs.lemmas.Str.Parse.{IsNumeralModel, numerals_by_fold}
 use lib.Seq.{take-length}
+use Rattle.std.proofs.Math.ListN.{drop_of_length-le}
 use Rattle.line_bytes.specs.Line.{digit, digits, read_on, decimal, field, fields}
-use Rattle.line_bytes.specs.Inner.{Wrote}
+use Rattle.line_bytes.specs.Inner.{written, Wrote}
 
 -- a number's last digit stands behind those of its tenth
 last_behind : AppendsLastDigit digits
@@ -42,6 +43,16 @@ few_digits (suc k) n =
 pub few_bytes : (ns : List ℕ) → length (fields ns) ≤ 6 * length ns
 few_bytes [] = omega arith
 few_bytes (n ∷ ns) = omega (arith, length-append (field n) (fields ns), few_digits 5 n, few_bytes ns)
+
+-- a text behind all that stands
+pub wrote_behind : {new : List ℕ} (old text : List ℕ) → new ≡ old ++ text → Wrote (length old) text old (length new) new
+unfolding written
+wrote_behind {new} old text all =
+    let none_behind : drop (length old + length text) old ≡ [] = drop_of_length-le old (omega arith) in
+    record {
+      end = ap length all ∙ length-append old text;
+      leaves = all ∙ rw (take-length old, none_behind, append-nil text) refl;
+    }
 
 -- all numbers
 pub fields_end :

@@ -4,6 +4,7 @@
 ghost use Rattle.std.specs.Prelude.{◌≡◌, ◌+◌, ◌*◌, ◌≤◌, ◌++◌, length};
 ghost use Rattle.arrayvec.specs.ArrayVec.{array_vec_len};
 ghost use Rattle.line_bytes.specs.Line.{field, refused_line, line_with};
+ghost use Rattle.line_bytes.specs.Inner.{Wrote};
 
 use arrayvec::ArrayVec;
 use itoa::Buffer;
@@ -15,9 +16,11 @@ pub const LINE_SIZE: usize = 64;
 pub type Line = ArrayVec<u8, LINE_SIZE>;
 
 // Bytes that there is room for.
+#[tactic(auto, using(crate::proofs::Laws::wrote_behind))]
 fn push_bytes<const N: usize>(line: &mut ArrayVec<u8, N>, bytes: &[u8])
     requires { array_vec_len line.old + length bytes.now ≤ N }
-    ensures { line.new.items ≡ line.old.items ++ bytes.now }
+    ensures all { line.new.items ≡ line.old.items ++ bytes.now }
+    ensures wrote { Wrote (array_vec_len line.old) bytes.now line.old.items (array_vec_len line.new) line.new.items }
 {
     let _ = line.try_extend_from_slice(bytes);
 }
@@ -26,7 +29,8 @@ fn push_bytes<const N: usize>(line: &mut ArrayVec<u8, N>, bytes: &[u8])
 #[tactic(auto, using(crate::proofs::Laws::field_behind))]
 fn push_field<const N: usize>(line: &mut ArrayVec<u8, N>, number: u16)
     requires { array_vec_len line.old + 6 ≤ N }
-    ensures { line.new.items ≡ line.old.items ++ field number }
+    ensures all { line.new.items ≡ line.old.items ++ field number }
+    ensures wrote { Wrote (array_vec_len line.old) (field number) line.old.items (array_vec_len line.new) line.new.items }
 {
     let mut digits = Buffer::new();
     push_bytes(line, b" ");
