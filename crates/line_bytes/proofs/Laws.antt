@@ -1,6 +1,6 @@
 -- Laws of the line: its numbers are those that the library writes, and are read back; and how long they are.
 -- Assumes nothing.
-use Rattle.std.proofs.Common.{◌≡◌, ℕ, zero, suc, ◌+◌, ◌*◌, ◌/◌, ◌%◌, ◌<◌, ◌≤◌, true, false, cond, List, [], ◌∷◌, ◌++◌, length, length-append, refl, sym, ap, ◌∙◌, append_assoc, append-nil, take, drop, length-take-le, rules, arith}
+use Rattle.std.proofs.Common.{◌≡◌, ℕ, zero, suc, ◌+◌, ◌*◌, ◌/◌, ◌%◌, ◌^◌, ◌<◌, ◌≤◌, true, false, cond, List, [], ◌∷◌, ◌++◌, length, length-append, refl, sym, ap, ◌∙◌, append_assoc, append-nil, take, drop, length-take-le, rules, arith}
 use lib.Dec.{ltb}
 use Rattle.std.specs.Fmt
 use Rattle.std.specs.Str.{all_ascii_digits}
@@ -8,6 +8,8 @@ use Rattle.std.proofs.lemmas.Fmt.{AppendsLastDigit, decimal_from_appends, length
 use Rattle.std.proofs.lemmas.Str.Parse.{IsNumeralModel, numerals_by_fold}
 use lib.Seq.{take-length}
 use Rattle.std.proofs.Math.ListN.{drop_of_length-le}
+use Rattle.std.proofs.lemmas.Grind.{flat_map-append}
+use native.Mathlib.Nat.{pow-suc}
 use Rattle.line_bytes.specs.Line.{digit, digits, read_on, decimal, field, fields}
 use Rattle.line_bytes.specs.Inner.{written, Wrote}
 
@@ -15,6 +17,26 @@ use Rattle.line_bytes.specs.Inner.{written, Wrote}
 last_behind : AppendsLastDigit digits
 unfolding digits
 last_behind = search rules
+
+-- one digit more to use changes nothing where the number has no more digits
+pub digits_enough : (k n : ℕ) → n < 10 ^ suc k → digits (suc (suc k)) n ≡ digits (suc k) n
+unfolding digits
+digits_enough zero n small = last_behind.one 1 n (omega arith) ∙ sym (last_behind.one 0 n (omega arith))
+digits_enough (suc k) n small =
+    ap (λ (ds : List ℕ). cond (ltb n 10) (digit n ∷ []) (ds ++ (digit (n % 10) ∷ [])))
+    (digits_enough k (n / 10) (omega (arith, pow-suc 10 (suc k))))
+
+-- a number of one digit in decimal
+pub one_digit : (n : ℕ) → n < 10 → decimal n ≡ digit n ∷ []
+one_digit n small = last_behind.one 4 n small
+
+-- a number of more digits in decimal: those of its tenth, and the last
+pub more_digits : (n : ℕ) → 10 ≤ n → n < 65536 → decimal n ≡ decimal (n / 10) ++ (digit (n % 10) ∷ [])
+more_digits n large small = rw (digits_enough 3 (n / 10) (omega arith)) (last_behind.more 4 n large)
+
+-- such a number is one digit longer than its tenth
+pub decimal_longer : (n : ℕ) → 10 ≤ n → n < 65536 → length (decimal n) ≡ length (decimal (n / 10)) + 1
+decimal_longer n large small = ap length (more_digits n large small) ∙ length-append (decimal (n / 10)) (digit (n % 10) ∷ [])
 
 -- a number in decimal is what the library writes
 pub decimal_is : (n : ℕ) → n < 100000 → Fmt.decimal n ≡ decimal n
@@ -38,6 +60,10 @@ few_digits (suc k) n =
       | true ↦ omega arith
       | false ↦ omega (arith, length-append (digits k (n / 10)) (digit (n % 10) ∷ []), few_digits k (n / 10))
     ]
+
+-- numbers with one more at the end
+pub fields_more : (ns : List ℕ) (n : ℕ) → fields (ns ++ (n ∷ [])) ≡ fields ns ++ field n
+fields_more ns n = flat_map-append field ns (n ∷ []) ∙ ap (λ (bytes : List ℕ). fields ns ++ bytes) (append-nil (field n))
 
 -- a line's numbers take six bytes each at the most
 pub few_bytes : (ns : List ℕ) → length (fields ns) ≤ 6 * length ns
