@@ -50,7 +50,7 @@ pub fn bytes_of(alloc: Global, text: &str) -> Result<Vec<u8>, RowError>
 }
 
 // The lists of a pair.
-#[derive(Drop)]
+#[derive(Clone, Drop)]
 pub struct Lists {
     first: Vec<u8>,
     // None: the first is given twice.
@@ -83,5 +83,23 @@ impl Lists {
         ensures { MatchOption self.now.second (result.now ≡ self.now.first.items) (λ bytes. result.now ≡ bytes.items) }
     {
         self.second.as_ref().unwrap_or(&self.first).as_slice()
+    }
+}
+
+#[cfg(test)]
+mod tests {
+    use super::*;
+
+    // A pair's lists are cloned, of two parts and of one that is given twice.
+    #[test]
+    fn lists_cloned(rt: HostRuntime) -> Result<(), RowError> {
+        let first = [0x51, 0x43, 1];
+        for (text, second) in [("515603", [0x51, 0x56, 3]), ("=", first)] {
+            let lists = Lists::new(rt.alloc(), "514301", text)?;
+            let cloned = lists.clone()?;
+            assert_eq!(rt; cloned.first(), first.as_slice());
+            assert_eq!(rt; cloned.second(), second.as_slice());
+        }
+        Ok(())
     }
 }
