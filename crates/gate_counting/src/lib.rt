@@ -3,37 +3,27 @@
 #![tactic(auto)]
 
 ghost use Rattle.std.specs.Prelude.{◌≡◌};
+ghost use Rattle.record_format.specs.Gate.{gate_of_three};
 ghost use Rattle.record_format.specs.Reading.{gates_in};
-ghost use Rattle.record_format.specs.Typed.{gate_in};
 ghost use Rattle.amplitude.specs.Circuit.{h_gates, t_gates};
 ghost use Rattle.gate_counting.specs.Inner.{counts_h, counts_t};
 
-use record_format::gate::{Gate, OneQubit};
+use record_format::gate::OneQubit;
 
-// Is it an H?
-fn is_h(gate: Gate) -> bool
-    ensures { result ≡ counts_h (gate_in gate) }
+// Are these the bytes of an H? Stays: by the kind alone, without a branch; a decoded gate would be a branch a kind.
+fn is_h(bytes: [u8; 3]) -> bool
+    ensures { result ≡ counts_h (gate_of_three bytes) }
 {
-    matches!(
-        gate,
-        Gate::One {
-            kind: OneQubit::H,
-            ..
-        }
-    )
+    let [kind, ..] = bytes;
+    kind == u8::from(OneQubit::H)
 }
 
-// Is it a T or the inverse of one?
-fn is_t(gate: Gate) -> bool
-    ensures { result ≡ counts_t (gate_in gate) }
+// Are these the bytes of a T or of its inverse? Stays: `|`, as above.
+fn is_t(bytes: [u8; 3]) -> bool
+    ensures { result ≡ counts_t (gate_of_three bytes) }
 {
-    matches!(
-        gate,
-        Gate::One {
-            kind: OneQubit::T | OneQubit::TInverse,
-            ..
-        }
-    )
+    let [kind, ..] = bytes;
+    (kind == u8::from(OneQubit::T)) | (kind == u8::from(OneQubit::TInverse))
 }
 
 // The H gates of a list.
@@ -45,7 +35,7 @@ pub fn h_gates(gates: &[u8]) -> usize
         .as_chunks::<3>()
         .0
         .iter()
-        .filter(|bytes| is_h(Gate::from(**bytes)))
+        .filter(|bytes| is_h(**bytes))
         .count()
 }
 
@@ -57,6 +47,6 @@ pub fn t_gates(gates: &[u8]) -> usize
         .as_chunks::<3>()
         .0
         .iter()
-        .filter(|bytes| is_t(Gate::from(**bytes)))
+        .filter(|bytes| is_t(**bytes))
         .count()
 }
