@@ -3,32 +3,33 @@
 
 ghost use Rattle.std.specs.Prelude.{◌≡◌, ◌+◌, ◌*◌, ◌≤◌, ◌++◌, length, take, drop};
 ghost use Rattle.record_format.specs.Format.{gate_size, most_qubits};
-ghost use Rattle.record_format.specs.Gate.{Within, AllWithin, body_bytes, shift_gate, shift_list};
+ghost use Rattle.record_format.specs.Gate.{Within, AllWithin, gate_of_three, gate_bytes, body_bytes, shift_gate, shift_list};
 ghost use Rattle.record_format.specs.Chunks.{gates_of};
-ghost use Rattle.record_format.specs.Typed.{gate_in};
 ghost use Rattle.joining_types.specs.Call.{joined_answer};
 ghost use Rattle.joining_types.specs.Inner.{shift_bytes, written};
 
 use joining_types::Refusal;
-use record_format::gate::Gate;
+use record_bytes::{LAST_KIND, LAST_ONE_QUBIT};
+use record_format::gate::NO_QUBIT;
 use record_format::{GATE_SIZE, HEAD_SIZE};
 use record_reading::MOST_GATES;
 use record_writing::{write_gate, write_head};
 
-// A gate with its qubits numbered further on by a shift.
+// A gate's three bytes at a place of a buffer, its qubits numbered further on by a shift.
+// Stays: bytes, with a kind above 10 mended afterwards; gates that are decoded and encoded again make a join a quarter slower.
 // Stays: a shift is a number of qubits; a type for 16 at most would be made once and opened at each gate.
-#[tactic(auto, unfolding(record_format::specs::Gate::shift_gate))]
-fn shifted(gate: Gate, shift: u8) -> Gate
-    requires { (shift ≤ most_qubits) × Within most_qubits (gate_in gate) }
-    ensures { gate_in result ≡ shift_gate shift (gate_in gate) }
+fn write_further_on(buffer: &mut [u8], at: usize, shift: u8, bytes: [u8; 3])
+    requires { (at + gate_size ≤ length buffer.old) × (shift ≤ most_qubits) × Within most_qubits (gate_of_three bytes) }
+    ensures { buffer.new ≡ take at buffer.old ++ gate_bytes (shift_gate shift (gate_of_three bytes)) ++ drop (at + gate_size) buffer.old }
 {
-    match gate {
-        Gate::One { kind, q } => Gate::One { kind, q: shift + q },
-        Gate::Two { kind, a, b } => Gate::Two {
-            kind,
-            a: shift + a,
-            b: shift + b,
-        },
+    let [kind, a, b] = bytes;
+    if kind <= LAST_ONE_QUBIT {
+        write_gate(buffer, at, [kind, shift + a, NO_QUBIT]);
+        return;
+    }
+    write_gate(buffer, at, [kind, shift + a, shift + b]);
+    if kind > LAST_KIND {
+        buffer[at] = LAST_KIND;
     }
 }
 
@@ -39,8 +40,7 @@ fn write_gates(buffer: &mut [u8], at: usize, shift: u8, gates: &[[u8; 3]])
     ensures as_bytes { buffer.new ≡ take at buffer.old ++ shift_bytes shift (body_bytes (gates_of gates.now)) ++ drop (at + gate_size * length gates.now) buffer.old }
 {
     for (i, bytes) in gates.iter().enumerate() {
-        let gate = shifted(Gate::from(*bytes), shift);
-        write_gate(buffer, at + GATE_SIZE * i, gate.into());
+        write_further_on(buffer, at + GATE_SIZE * i, shift, *bytes);
     }
 }
 

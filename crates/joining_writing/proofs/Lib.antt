@@ -1,0 +1,2 @@
+-- The bytes of a gate whose qubits are numbered further on.
+pub mod Bytes
