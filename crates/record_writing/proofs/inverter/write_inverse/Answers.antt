@@ -1,8 +1,8 @@
 -- A turn stores the inverse of the last gate that is left.
 -- Assumes nothing.
-use Rattle.std.proofs.Common.{◌≡◌, ◌+◌, ◌∷◌, length, ap, ◌∙◌, arith}
+use Rattle.std.proofs.Common.{◌≡◌, refl, ◌+◌, ◌∷◌, length, ap, ◌∙◌, arith}
 use Rattle.std.proofs.lemmas.List.{nil_from_length, length_push}
-use Rattle.record_format.specs.Gate.{gate_of_three, inverse_gate, inverse_list, gate_bytes, body_bytes}
+use Rattle.record_format.specs.Gate.{gate_of_three, inverse_gate, inverse_list, body_bytes}
 use Rattle.record_format.specs.Reading.{size}
 use Rattle.record_format.specs.Chunks.{gates_of}
 use Rattle.record_format.proofs.Encoding.{inverse-body}
@@ -19,13 +19,12 @@ loop-i-preserved c =
     let gates = inverse_list (gates_of chunks) in
     let more : inverse_list (gates_of c.loop-i.i-iterator.iter.iter.rest.now) ≡ gate ∷ gates =
     ap (λ cs. inverse_list (gates_of cs)) rest ∙ inverses_of_last chunks c.in-Some.bytes.now in
-    let bytes : c.into.result ≡ gate_bytes gate = cc in
     let longer = simp length_push at (ap length rest) in
     let at : size (c.loop-i.i-iterator.count + 1) ≡ size c.loop-i.i-iterator.count + 3 = omega arith in
-    let stored = gate_stored c.loop-i.buffer c.into.result (size c.loop-i.i-iterator.count) gate gates bytes (omega (arith, length_inverses_of chunks)) in
+    let stored = gate_stored c.loop-i.buffer _ (size c.loop-i.i-iterator.count) gate gates refl (omega (arith, length_inverses_of chunks)) in
     record {
       fits = omega arith;
-      left = rw (next, at, c.write_gate.ensures, here) (stored ∙ rw more at c.loop-i.invariant.left);
+      left = rw (next, at, c.write_inverted.ensures, here) (stored ∙ rw more at c.loop-i.invariant.left);
     }
 
 pub returns : goal.returns
