@@ -92,28 +92,28 @@ impl<T: Place> Lent<T> {
         self.places.as_slice()
     }
 
-    // How many of the first so many are 0.
+    // How many of the first so many are 0. Stays: a loop, as below, since `filter` with `count` branches at each place.
     fn zeros(&self, used: usize) -> usize
         ensures used { result ≤ used }
         ensures places { result ≤ vec_len self.now.places }
     {
-        self.places
-            .iter()
-            .take(used)
-            .filter(|x| **x == T::default())
-            .count()
+        let mut zeros = 0;
+        for i in 0..used.min(self.places.len()) {
+            zeros += usize::from(self.places[i] == T::default());
+        }
+        zeros
     }
 
     // How many of those from one on hold what they held before the call.
     pub fn kept(&self, from: usize) -> usize
         ensures { result ≤ vec_len self.now.places - from }
     {
-        self.places
-            .iter()
-            .zip(self.before.iter())
-            .skip(from)
-            .filter(|(now, before)| **now == **before)
-            .count()
+        let end = self.places.len().min(self.before.len());
+        let mut kept = 0;
+        for i in from..end {
+            kept += usize::from(self.places[i] == self.before[i]);
+        }
+        kept
     }
 
     // What all of them hold after a call that uses the first so many.

@@ -3,50 +3,59 @@
 #![tactic(auto)]
 
 ghost use Rattle.std.specs.Prelude.{◌≡◌};
-ghost use Rattle.record_format.specs.Gate.{gate_of_three};
 ghost use Rattle.record_format.specs.Reading.{gates_in};
+ghost use Rattle.record_format.specs.Typed.{gate_in};
 ghost use Rattle.amplitude.specs.Circuit.{h_gates, t_gates};
 ghost use Rattle.gate_counting.specs.Inner.{counts_h, counts_t};
 
-use record_format::gate::OneQubit;
+use record_format::gate::{Gate, OneQubit};
 
-// Are these the bytes of an H? Stays: by the kind alone, without a branch; a decoded gate would be a branch a kind.
-fn is_h(bytes: [u8; 3]) -> bool
-    ensures { result ≡ counts_h (gate_of_three bytes) }
+// Is it an H?
+fn is_h(gate: Gate) -> bool
+    ensures { result ≡ counts_h (gate_in gate) }
 {
-    let [kind, ..] = bytes;
-    kind == u8::from(OneQubit::H)
+    matches!(
+        gate,
+        Gate::One {
+            kind: OneQubit::H,
+            ..
+        }
+    )
 }
 
-// Are these the bytes of a T or of its inverse? Stays: `|`, as above.
-fn is_t(bytes: [u8; 3]) -> bool
-    ensures { result ≡ counts_t (gate_of_three bytes) }
+// Is it a T or the inverse of one?
+fn is_t(gate: Gate) -> bool
+    ensures { result ≡ counts_t (gate_in gate) }
 {
-    let [kind, ..] = bytes;
-    (kind == u8::from(OneQubit::T)) | (kind == u8::from(OneQubit::TInverse))
+    matches!(
+        gate,
+        Gate::One {
+            kind: OneQubit::T | OneQubit::TInverse,
+            ..
+        }
+    )
 }
 
 // The H gates of a list.
-// Stays: two chains with a test each; of one function over the test, the contract would say what the test says as a ghost value, as long as the chain.
+// Stays: two loops with a test each; of one function over the test, the contract would say what the test says as a ghost value, as long as the loop.
+// Stays: loops, since `filter` with `count` branches at each gate.
 pub fn h_gates(gates: &[u8]) -> usize
     ensures { result ≡ h_gates (gates_in gates.now) }
 {
-    gates
-        .as_chunks::<3>()
-        .0
-        .iter()
-        .filter(|bytes| is_h(**bytes))
-        .count()
+    let mut count = 0;
+    for bytes in gates.as_chunks::<3>().0 {
+        count += usize::from(is_h(Gate::from(*bytes)));
+    }
+    count
 }
 
 // The T gates of a list, inverses among them.
 pub fn t_gates(gates: &[u8]) -> usize
     ensures { result ≡ t_gates (gates_in gates.now) }
 {
-    gates
-        .as_chunks::<3>()
-        .0
-        .iter()
-        .filter(|bytes| is_t(**bytes))
-        .count()
+    let mut count = 0;
+    for bytes in gates.as_chunks::<3>().0 {
+        count += usize::from(is_t(Gate::from(*bytes)));
+    }
+    count
 }
