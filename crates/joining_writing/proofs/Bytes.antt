@@ -1,10 +1,12 @@
 -- The three bytes of a gate with its qubits k further on, by the bytes that it was read from.
 -- Assumes nothing.
-use Rattle.std.proofs.Common.{◌≡◌, refl, ℕ, zero, suc, ◌+◌, ◌≤◌, ◌<◌, List, [], ◌∷◌, get_or, arith}
-use borrow.Author.Tests.{le-leb}
+use Rattle.std.proofs.Common.{◌≡◌, refl, ℕ, zero, suc, ◌+◌, ◌%◌, ◌≤◌, ◌<◌, Bool, true, false, List, [], ◌∷◌, get_or, arith}
+use Prim.Native.Nat.{min, max}
+use lib.Dec.{leb}
+use borrow.Author.Tests.{le-leb, leb-true, leb-false}
 use Rattle.record_format.specs.Format.{last_one_qubit, no_qubit}
 use Rattle.record_format.specs.Gate.{Within, raw, gate_of, gate_of_three, gate_bytes, one_qubit_kind, two_qubit_kind, shift_gate}
-use Rattle.record_writing.proofs.Bytes.{on_two, gate_on_two}
+use Rattle.record_writing.proofs.Bytes.{on_two, gate_on_two, number_two}
 
 -- qubit a of a gate on one qubit is within n
 pub one_within : (n : ℕ) (bytes : List ℕ) → get_or bytes 0 0 ≤ last_one_qubit → Within n (gate_of_three bytes) → get_or bytes 1 0 < n
@@ -18,6 +20,14 @@ pub two_within :
 two_within n bytes above within =
     let (a-below, b-below, _) = rw (gate_on_two bytes above) at within in
     (a-below, b-below)
+
+-- so qubit a is, of either
+pub first_within : (n : ℕ) (bytes : List ℕ) → Within n (gate_of_three bytes) → get_or bytes 1 0 < n
+first_within n bytes within = go (leb (get_or bytes 0 0) last_one_qubit) refl
+  where
+    go : (t : Bool) → leb (get_or bytes 0 0) last_one_qubit ≡ t → get_or bytes 1 0 < n
+    go true e = one_within n bytes (leb-true (get_or bytes 0 0) last_one_qubit e) within
+    go false e = (two_within n bytes (leb-false (get_or bytes 0 0) last_one_qubit e) within).0
 
 -- the bytes of a gate of three with its qubits k further on
 abbrev shifted : ℕ → List ℕ → List ℕ
@@ -44,3 +54,25 @@ pub two_shifted :
     → shifted k bytes ≡ two_qubit_kind (on_two (get_or bytes 0 0)) ∷ (k + get_or bytes 1 0) ∷ (k + get_or bytes 2 0) ∷ []
 unfolding gate_bytes shift_gate
 two_shifted k bytes above = rw (gate_on_two bytes above) refl
+
+-- the bytes that are written, by the least that b is
+pub written_on :
+    (k : ℕ) (bytes : List ℕ) {kind least b : ℕ} → k ≤ 16 → Within 16 (gate_of_three bytes)
+    → (get_or bytes 0 0 ≤ last_one_qubit → least ≡ no_qubit) → (last_one_qubit < get_or bytes 0 0 → least ≡ 0)
+    → kind ≡ min (get_or bytes 0 0) 10 → b ≡ max least ((k + get_or bytes 2 0) % 256)
+    → shifted k bytes ≡ kind ∷ (k + get_or bytes 1 0) ∷ b ∷ []
+written_on k bytes {kind} {least} {b} few within spare qubit kind-is b-is = go (leb (get_or bytes 0 0) last_one_qubit) refl
+  where
+    go : (t : Bool) → leb (get_or bytes 0 0) last_one_qubit ≡ t → shifted k bytes ≡ kind ∷ (k + get_or bytes 1 0) ∷ b ∷ []
+    go true e =
+        let one = leb-true (get_or bytes 0 0) last_one_qubit e in
+        let number : kind ≡ get_or bytes 0 0 = omega (arith, kind-is) in
+        let least-is = spare one in
+        let top : b ≡ no_qubit = omega (arith, b-is, least-is) in
+        rw (one_shifted k bytes one, number, top) refl
+    go false e =
+        let two = leb-false (get_or bytes 0 0) last_one_qubit e in
+        let below = (two_within 16 bytes two within).1 in
+        let least-is = qubit two in
+        let last : b ≡ k + get_or bytes 2 0 = omega (arith, b-is, least-is) in
+        rw (two_shifted k bytes two, number_two (get_or bytes 0 0) two, kind-is, last) refl

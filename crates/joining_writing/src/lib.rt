@@ -9,28 +9,21 @@ ghost use Rattle.joining_types.specs.Call.{joined_answer};
 ghost use Rattle.joining_types.specs.Inner.{shift_bytes, written};
 
 use joining_types::Refusal;
-use record_bytes::{LAST_KIND, LAST_ONE_QUBIT};
-use record_format::gate::NO_QUBIT;
+use record_bytes::LAST_KIND;
 use record_format::{GATE_SIZE, HEAD_SIZE};
 use record_reading::MOST_GATES;
-use record_writing::{write_gate, write_head};
+use record_writing::{least_b, write_gate, write_head};
 
 // A gate's three bytes at a place of a buffer, its qubits numbered further on by a shift.
-// Stays: bytes, with a kind above 10 mended afterwards; gates that are decoded and encoded again make a join a quarter slower.
+// Stays: bytes, which need no branch; gates that are decoded and encoded again make a join half as long again.
 // Stays: a shift is a number of qubits; a type for 16 at most would be made once and opened at each gate.
 fn write_further_on(buffer: &mut [u8], at: usize, shift: u8, bytes: [u8; 3])
     requires { (at + gate_size ≤ length buffer.old) × (shift ≤ most_qubits) × Within most_qubits (gate_of_three bytes) }
     ensures { buffer.new ≡ take at buffer.old ++ gate_bytes (shift_gate shift (gate_of_three bytes)) ++ drop (at + gate_size) buffer.old }
 {
     let [kind, a, b] = bytes;
-    if kind <= LAST_ONE_QUBIT {
-        write_gate(buffer, at, [kind, shift + a, NO_QUBIT]);
-        return;
-    }
-    write_gate(buffer, at, [kind, shift + a, shift + b]);
-    if kind > LAST_KIND {
-        buffer[at] = LAST_KIND;
-    }
+    let b = least_b(kind).max(shift.wrapping_add(b));
+    write_gate(buffer, at, [kind.min(LAST_KIND), shift + a, b]);
 }
 
 // A list's gates at a place of a buffer, their qubits numbered further on by a shift.

@@ -8,27 +8,37 @@ ghost use Rattle.record_format.specs.Writing.{inverse};
 ghost use Rattle.record_format.specs.Answer.{written_answer};
 ghost use Rattle.record_format.specs.Inner.{inverse_bytes};
 
-use crate::{write_gate, write_head};
-use record_bytes::{LAST_KIND, LAST_ONE_QUBIT};
-use record_format::gate::Gate;
+use crate::{least_b, write_gate, write_head};
+use record_bytes::LAST_KIND;
+use record_format::gate::{OneQubit, TwoQubit};
 use record_format::{GATE_SIZE, HEAD_SIZE, Head, Refusal};
 use record_reading::{check, whole_gates};
 
+// The number of each kind's inverse: S and T exchanged for theirs; every other gate is its own.
+const INVERSES: [u8; 11] = [
+    OneQubit::X as u8,
+    OneQubit::Y as u8,
+    OneQubit::Z as u8,
+    OneQubit::SInverse as u8,
+    OneQubit::S as u8,
+    OneQubit::TInverse as u8,
+    OneQubit::T as u8,
+    OneQubit::H as u8,
+    TwoQubit::Cx as u8,
+    TwoQubit::Cz as u8,
+    TwoQubit::Swap as u8,
+];
+
 // The inverse of a gate's three bytes at a place of a buffer.
-// Stays: a gate on two qubits as its bytes, with a kind above 10 mended afterwards; decoded and encoded again it makes the call a fifth slower.
+// Stays: by a table of numbers, which needs no branch; a gate that is decoded, inverted and encoded again makes the call up to half as long again.
 fn write_inverted(buffer: &mut [u8], at: usize, bytes: [u8; 3])
     requires { at + gate_size ≤ length buffer.old }
     ensures { buffer.new ≡ take at buffer.old ++ gate_bytes (inverse_gate (gate_of_three bytes)) ++ drop (at + gate_size) buffer.old }
 {
     let [kind, a, b] = bytes;
-    if kind <= LAST_ONE_QUBIT {
-        write_gate(buffer, at, Gate::from(bytes).inverse().into());
-        return;
-    }
-    write_gate(buffer, at, [kind, a, b]);
-    if kind > LAST_KIND {
-        buffer[at] = LAST_KIND;
-    }
+    let inverse = INVERSES[usize::from(kind.min(LAST_KIND))];
+    let b = least_b(kind).max(b);
+    write_gate(buffer, at, [inverse, a, b]);
 }
 
 // The gates, backwards and each inverted, behind the head in the buffer.

@@ -5,13 +5,15 @@
 mod builder;
 mod inverter;
 
-ghost use Rattle.std.specs.Prelude.{◌≡◌, ◌+◌, ◌≤◌, length, take, drop, ◌++◌};
-ghost use Rattle.record_format.specs.Format.{head_size, gate_size};
+ghost use Rattle.std.specs.Prelude.{◌≡◌, ◌+◌, ◌<◌, ◌≤◌, length, take, drop, ◌++◌};
+ghost use Rattle.record_format.specs.Format.{head_size, gate_size, last_one_qubit, no_qubit};
 ghost use Rattle.record_format.specs.Writing.{head_bytes};
 
 pub use builder::{add, start};
 pub use inverter::inverse;
+use record_bytes::LAST_ONE_QUBIT;
 use record_format::GATE_SIZE;
+use record_format::gate::NO_QUBIT;
 use record_reading::LIST_MARK;
 
 // A record's head at the front of a buffer.
@@ -22,6 +24,14 @@ pub fn write_head(buffer: &mut [u8], n: u8, g: u16)
     buffer[..2].copy_from_slice(&LIST_MARK);
     buffer[2] = n;
     buffer[3..5].copy_from_slice(&g.to_le_bytes());
+}
+
+// What b of a gate of this kind is at least: 255 on one qubit, where b is spare, else 0; the greater of this and a qubit is b, without a branch.
+pub fn least_b(kind: u8) -> u8
+    ensures spare { kind ≤ last_one_qubit → result ≡ no_qubit }
+    ensures qubit { last_one_qubit < kind → result ≡ 0 }
+{
+    if kind <= LAST_ONE_QUBIT { NO_QUBIT } else { 0 }
 }
 
 // A gate's three bytes at a place of a buffer.
