@@ -1,7 +1,10 @@
 -- The three bytes of a gate with its qubits k further on, by the bytes that it was read from.
 -- Assumes nothing.
 use Rattle.std.proofs.Common.{◌≡◌, refl, ℕ, zero, suc, ◌+◌, ◌%◌, ◌≤◌, ◌<◌, Bool, true, false, List, [], ◌∷◌, get_or, arith}
-use Prim.Native.Nat.{min, max}
+use Prim.Native.Nat.{min}
+use mathlib.Core.Path.{◌∙◌}
+use Rattle.std.specs.Int.Bits.{bit_or, or_zero_l}
+use Rattle.std.proofs.lemmas.Nat.{le_or_l, or_of_8}
 use lib.Dec.{leb}
 use borrow.Author.Tests.{le-leb, leb-true, leb-false}
 use Rattle.record_format.specs.Format.{last_one_qubit, no_qubit}
@@ -55,11 +58,15 @@ pub two_shifted :
 unfolding gate_bytes shift_gate
 two_shifted k bytes above = rw (gate_on_two bytes above) refl
 
+-- all bits of a byte, with those of another, are all
+all_ones : (b : ℕ) → b < 256 → bit_or no_qubit b ≡ no_qubit
+all_ones b fits = omega (arith, le_or_l no_qubit b, or_of_8 no_qubit b (omega arith) (omega arith))
+
 -- the bytes that are written, by the least that b is
 pub written_on :
     (k : ℕ) (bytes : List ℕ) {kind least b : ℕ} → k ≤ 16 → Within 16 (gate_of_three bytes)
     → (get_or bytes 0 0 ≤ last_one_qubit → least ≡ no_qubit) → (last_one_qubit < get_or bytes 0 0 → least ≡ 0)
-    → kind ≡ min (get_or bytes 0 0) 10 → b ≡ max least ((k + get_or bytes 2 0) % 256)
+    → kind ≡ min (get_or bytes 0 0) 10 → b ≡ bit_or least ((k + get_or bytes 2 0) % 256)
     → shifted k bytes ≡ kind ∷ (k + get_or bytes 1 0) ∷ b ∷ []
 written_on k bytes {kind} {least} {b} few within spare qubit kind-is b-is = go (leb (get_or bytes 0 0) last_one_qubit) refl
   where
@@ -67,12 +74,10 @@ written_on k bytes {kind} {least} {b} few within spare qubit kind-is b-is = go (
     go true e =
         let one = leb-true (get_or bytes 0 0) last_one_qubit e in
         let number : kind ≡ get_or bytes 0 0 = omega (arith, kind-is) in
-        let least-is = spare one in
-        let top : b ≡ no_qubit = omega (arith, b-is, least-is) in
+        let top : b ≡ no_qubit = b-is ∙ rw (spare one) (all_ones ((k + get_or bytes 2 0) % 256) (omega arith)) in
         rw (one_shifted k bytes one, number, top) refl
     go false e =
         let two = leb-false (get_or bytes 0 0) last_one_qubit e in
         let below = (two_within 16 bytes two within).1 in
-        let least-is = qubit two in
-        let last : b ≡ k + get_or bytes 2 0 = omega (arith, b-is, least-is) in
+        let last : b ≡ k + get_or bytes 2 0 = b-is ∙ rw (qubit two, or_zero_l) (omega arith) in
         rw (two_shifted k bytes two, number_two (get_or bytes 0 0) two, kind-is, last) refl

@@ -22,7 +22,7 @@ fn write_further_on(buffer: &mut [u8], at: usize, shift: u8, bytes: [u8; 3])
     ensures { buffer.new ≡ take at buffer.old ++ gate_bytes (shift_gate shift (gate_of_three bytes)) ++ drop (at + gate_size) buffer.old }
 {
     let [kind, a, b] = bytes;
-    let b = least_b(kind).max(shift.wrapping_add(b));
+    let b = least_b(kind) | shift.wrapping_add(b);
     write_gate(buffer, at, [kind.min(LAST_KIND), shift + a, b]);
 }
 

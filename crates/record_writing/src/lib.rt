@@ -26,7 +26,8 @@ pub fn write_head(buffer: &mut [u8], n: u8, g: u16)
     buffer[3..5].copy_from_slice(&g.to_le_bytes());
 }
 
-// What b of a gate of this kind is at least: 255 on one qubit, where b is spare, else 0; the greater of this and a qubit is b, without a branch.
+// What b of a gate of this kind is at least: 255 on one qubit, where b is spare, else 0. The greater of this and a qubit, or the bits of both, are b,
+// without a branch.
 pub fn least_b(kind: u8) -> u8
     ensures spare { kind ≤ last_one_qubit → result ≡ no_qubit }
     ensures qubit { last_one_qubit < kind → result ≡ 0 }
